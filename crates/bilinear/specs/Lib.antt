@@ -1,0 +1,4 @@
+pub mod Axis
+pub mod Surface
+pub mod Answers
+pub mod Search

@@ -1,0 +1,76 @@
+// The figures of the two datums, points of each, and the refusals.
+ghost use mathlib.Core.Path.{_≡_};
+ghost use Rattle.figures.specs.Refusal.{numberOf, placeOf};
+
+// A NAD 27 figure, in thousandths of an arc second.
+pub struct Nad27(pub i64);
+
+// A NAD 83 figure, in hundred-thousandths of an arc second.
+pub struct Nad83(pub i64);
+
+// Latitude is positive north and longitude positive east, in both datums.
+pub struct Point27 {
+    pub lat: Nad27,
+    pub lon: Nad27,
+}
+
+pub struct Point83 {
+    pub lat: Nad83,
+    pub lon: Nad83,
+}
+
+// Why the answer is no: one variant for each row of document 01's table, with the place where that varies.
+pub enum Refusal {
+    // 1: the line that is missing, extra or not of its form, from 1.
+    Form(usize),
+    // 2: the first header rule that is broken.
+    Rule(usize),
+    // 3: the lowest node with a shift beyond its range.
+    Range(usize),
+    // 4: the lowest node that is too steep to its east or north neighbour.
+    Steep(usize),
+    // 5: rows × cols, which a lent node slice is shorter than.
+    NodeRoom(usize),
+    // 6: the NAD 27 point is off the grid.
+    OffGrid,
+    // 7: no point of the grid has this answer.
+    NoPoint,
+    // 8: the bytes needed, which the lent room for text is shorter than.
+    TextRoom(usize),
+    // 9: 0 where the grid file can't be read, or the limit that it is longer than.
+    File(usize),
+}
+
+impl Refusal {
+    pub fn number(self) -> usize
+        ensures { λ r. ⌜ r ≡ numberOf self ⌝ }
+    {
+        match self {
+            Refusal::Form(_) => 1,
+            Refusal::Rule(_) => 2,
+            Refusal::Range(_) => 3,
+            Refusal::Steep(_) => 4,
+            Refusal::NodeRoom(_) => 5,
+            Refusal::OffGrid => 6,
+            Refusal::NoPoint => 7,
+            Refusal::TextRoom(_) => 8,
+            Refusal::File(_) => 9,
+        }
+    }
+
+    pub fn place(self) -> usize
+        ensures { λ r. ⌜ r ≡ placeOf self ⌝ }
+    {
+        match self {
+            Refusal::Form(line) => line,
+            Refusal::Rule(rule) => rule,
+            Refusal::Range(node) => node,
+            Refusal::Steep(node) => node,
+            Refusal::NodeRoom(nodes) => nodes,
+            Refusal::OffGrid => 0,
+            Refusal::NoPoint => 0,
+            Refusal::TextRoom(bytes) => bytes,
+            Refusal::File(limit) => limit,
+        }
+    }
+}

@@ -1,0 +1,70 @@
+-- Laws of range and steepness, node by node.
+use Prim.Native.Nat.{ℕ, _+_, _*_, _/_, _%_, _≤_, _<_}
+use mathlib.Core.Path.{_≡_, refl, _∙_}
+use mathlib.Core.Bool.{Bool, true, false, _||_}
+use mathlib.Core.List.{List}
+use native.Mathlib.Omega.{arith}
+use native.Mathlib.Nat.{div-add-mod, mul-le-mul-left, div-lt-iff-lt-mul}
+use borrow.Author.Tests.{ltb-false, lt-ltb, not-false}
+use lib.IntN.{ℤ, pos, natAbs, _-ℤ_}
+use lib.Signed.{_≤ℤ_, _<ℤ_}
+use Rattle.laws.specs.Parts.{posPart, Within, ints, parts-disjoint, abs-parts}
+use Rattle.laws.specs.Bounds.{own-size}
+use Rattle.laws.specs.Expr.{machine, linear, lit, bounded, reads, reads-within, _⊖_}
+use Rattle.laws.specs.Logic.{neither, second-fails}
+use Rattle.grid.specs.Rules.{minus, between}
+use Rattle.grid.specs.Nodes.{node, beyondRange, tooSteep, steepEast, steepNorth, steepNode}
+use Rattle.grid.specs.Needs.{InRange}
+use Rattle.grid.specs.declared.Shape.{Shape}
+use Rattle.grid.proofs.RuleLaws.{between-holds, between-true, between-within}
+
+-- a shift in its range
+pub in-range : {x : ℤ} → beyondRange x ≡ false → Within 6000000 x
+unfolding beyondRange
+in-range {x} e = between-within 6000000 (between-holds (not-false _ e)) (own-size (minus 6000000)) (own-size (pos 6000000))
+
+pub not-beyond : {x : ℤ} → Within 6000000 x → beyondRange x ≡ false
+unfolding beyondRange
+not-beyond {x} h =
+    let a : minus 6000000 ≤ℤ x = omega (arith, ints) in
+    let b : x ≤ℤ pos 6000000 = omega (arith, ints) in
+    rw (between-true a b)
+
+-- the size of a difference, as the code has it
+pub rising : {a b : ℤ} → a <ℤ b → posPart (b -ℤ a) ≡ natAbs (b -ℤ a)
+rising {a} {b} h = omega (arith, ints, linear (lit b ⊖ lit a), abs-parts (b -ℤ a), parts-disjoint (b -ℤ a))
+
+pub falling : {a b : ℤ} → b ≤ℤ a → posPart (a -ℤ b) ≡ natAbs (b -ℤ a)
+falling {a} {b} h = omega (arith, ints, linear (lit b ⊖ lit a), linear (lit a ⊖ lit b), abs-parts (b -ℤ a), parts-disjoint (b -ℤ a), parts-disjoint (a -ℤ b))
+
+-- an east neighbour is a node of the grid
+pub east-in : (rows cols k : ℕ) → 0 < cols → k < rows * cols → k % cols + 1 < cols → k + 1 < rows * cols
+east-in rows cols k c h e =
+    let q : k / cols < rows = div-lt-iff-lt-mul c .1 h in
+    omega (arith, div-add-mod k cols, mul-le-mul-left cols q)
+
+-- what the checks leave of each component
+pub record Sound (s : Shape) (S : List ℤ) : Type 0 where
+  pub ranged : InRange (s .rows * s .cols) S
+  pub east : (k : ℕ) → k < s .rows * s .cols → k % s .cols + 1 < s .cols → 16 * natAbs (node S (k + 1) -ℤ node S k) ≤ 100 * s .dlon
+  pub north : (k : ℕ) → k + s .cols < s .rows * s .cols → 16 * natAbs (node S (k + s .cols) -ℤ node S k) ≤ 100 * s .dlat
+
+pub sound : (s : Shape) (S : List ℤ) → InRange (s .rows * s .cols) S → ((k : ℕ) → k < s .rows * s .cols → steepNode s S k ≡ false) → Sound s S
+unfolding steepNode steepEast steepNorth tooSteep
+sound s S r g =
+    record {
+      ranged = r;
+      east = λ k l e. ltb-false _ _ (second-fails _ _ (neither (steepEast s S k) (steepNorth s S k) (g k l) .0) (lt-ltb _ _ e));
+      north = λ k e. ltb-false _ _ (second-fails _ _ (neither (steepEast s S k) (steepNorth s S k) (g k (omega arith)) .1) (lt-ltb _ _ e));
+    }
+
+-- what `node_shift` gave, read back as an argument
+module _ {n : ℕ} {S : List ℤ} (i : InRange n S) {k : ℕ} (l : k < n) {r : ℤ} (e : r ≡ node S k) where
+  within : Within 6000000 r
+  within = rw e (i .range k l)
+
+  pub node-within : Within 6000000 (machine r)
+  node-within = reads-within (bounded within) tt
+
+  pub node-reads : machine r ≡ node S k
+  node-reads = reads (bounded within) tt ∙ e

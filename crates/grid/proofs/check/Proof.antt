@@ -1,0 +1,51 @@
+use borrow.Author.Needs.{needs}
+use mathlib.Core.Path.{_≡_, sym, ap, _∙_}
+use Rattle.grid.specs.Check.{outcome, nodesVerdict}
+use Rattle.grid.specs.declared.Shape.{Shape}
+use Rattle.grid.proofs.RuleLaws.{extent}
+use Rattle.grid.proofs.Passing.{laid, layout-refused, layout-passes}
+use Rattle.grid.proofs.check.Statement.{statement}
+use Rattle.grid.proofs.check.Tie as tie
+
+check-layout-requires : tie.Need-check-layout-requires
+check-layout-requires c κs = search needs
+
+enum-known-why : tie.Need-enum-known-why
+enum-known-why c = search needs
+
+enum-told : tie.Need-enum-told
+enum-told c = search needs
+
+shape-requires : tie.Need-shape-requires
+shape-requires c κs = search needs
+
+check-nodes-requires : tie.Need-check-nodes-requires
+check-nodes-requires c κs =
+    let l = c .before .before .before in
+    let e = sym (l .check-layout .ensures) ∙ ap outcome (c .before .enum-told .given .1) in
+    rw (c .shape .ensures) (extent (laid _ _ _ e .header))
+
+returns : tie.Need-returns
+returns c =
+    layout-refused _ _ _ (ap outcome (sym (c .before .why .given .1)) ∙ c .before .before .before .check-layout .ensures)
+
+returns-2 : tie.Need-returns-2
+returns-2 c =
+    let z = c .before in
+    let l = z .before .before .before in
+    let a = l .before .args in
+    c .check-nodes .ensures
+    ∙ ap (λ (s : Shape). nodesVerdict s (a .lat .now) (a .lon .now)) (z .shape .ensures)
+    ∙ layout-passes (a .h) (a .lat .now) (a .lon .now) (ap outcome (sym (z .before .enum-told .given .1)) ∙ l .check-layout .ensures)
+
+pub check-spec : {M : Type 1} → statement M
+check-spec =
+    tie.close
+    (tie.spec
+    check-layout-requires
+    enum-known-why
+    enum-told
+    shape-requires
+    check-nodes-requires
+    returns
+    returns-2)

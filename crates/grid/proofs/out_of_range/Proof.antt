@@ -1,0 +1,49 @@
+use borrow.Author.Needs.{needs}
+use mathlib.Core.Path.{_≡_, sym, ap, _∙_}
+use mathlib.Core.Bool.{Bool, true, false, _||_}
+use Rattle.laws.specs.Tests.{element}
+use Rattle.grid.specs.Nodes.{node, beyondRange, outOfRange}
+use Rattle.grid.proofs.out_of_range.Statement.{statement}
+use Rattle.grid.proofs.out_of_range.Tie as tie
+
+node-shift-requires : tie.Need-node-shift-requires
+node-shift-requires c κs = search needs
+
+beyond-range-requires : tie.Need-beyond-range-requires
+beyond-range-requires c κs = search needs
+
+returns : tie.Need-returns
+unfolding outOfRange
+returns c =
+    let b = c .before in
+    let n = b .before in
+    let e : beyondRange (node (n .before .args .lat .now) (n .before .args .k)) ≡ true =
+    ap beyondRange (sym (n .node-shift .ensures) ∙ sym (element (n .node-shift .ok))) ∙ sym (b .beyond-range .ensures) ∙ c .if1 .taken in
+    rw e
+
+node-shift-requires-2 : tie.Need-node-shift-requires-2
+node-shift-requires-2 c κs = search needs
+
+beyond-range-requires-2 : tie.Need-beyond-range-requires-2
+beyond-range-requires-2 c κs = search needs
+
+returns-2 : tie.Need-returns-2
+unfolding outOfRange
+returns-2 c =
+    let m = c .before in
+    let b = m .before .before in
+    let n = b .before in
+    let e : beyondRange (node (n .before .args .lat .now) (n .before .args .k)) ≡ false =
+    ap beyondRange (sym (n .node-shift .ensures) ∙ sym (element (n .node-shift .ok))) ∙ sym (b .beyond-range .ensures) ∙ m .before .if1 .left in
+    rw e (c .beyond-range2 .ensures ∙ ap beyondRange (element (m .node-shift2 .ok) ∙ m .node-shift2 .ensures))
+
+pub out-of-range-spec : {M : Type 1} → statement M
+out-of-range-spec =
+    tie.close
+    (tie.spec
+    node-shift-requires
+    beyond-range-requires
+    returns
+    node-shift-requires-2
+    beyond-range-requires-2
+    returns-2)

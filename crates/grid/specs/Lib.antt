@@ -1,0 +1,4 @@
+pub mod Rules
+pub mod Nodes
+pub mod Check
+pub mod Needs

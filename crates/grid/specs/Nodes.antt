@@ -1,0 +1,36 @@
+-- The range and the steepness of the nodes (document 01, "The sheet"). Node k stands in row k / cols and column k % cols.
+use Prim.Native.Nat.{ℕ, _+_, _*_, _%_}
+use mathlib.Core.Bool.{Bool, not, _&&_, _||_}
+use mathlib.Core.List.{List}
+use lib.Dec.{ltb}
+use lib.ListN.{getD}
+use lib.IntN.{ℤ, pos, natAbs, _-ℤ_}
+use Rattle.grid.specs.Rules.{minus, between}
+use Rattle.grid.specs.declared.Shape.{Shape}
+
+-- the shift of node `k`
+abbrev pub node : List ℤ → ℕ → ℤ
+node S k = getD S k (pos 0)
+
+-- "Each shift is from −6,000,000 to 6,000,000", denied
+unfoldable pub beyondRange : ℤ → Bool
+beyondRange x = not (between (minus 6000000) x (pos 6000000))
+
+unfoldable pub outOfRange : (lat lon : List ℤ) → ℕ → Bool
+outOfRange lat lon k = beyondRange (node lat k) || beyondRange (node lon k)
+
+-- "the size of the difference between a node and its east neighbour, times 16, is at most 100 × dlon", denied; so to the north
+unfoldable pub tooSteep : (spacing : ℕ) → (a b : ℤ) → Bool
+tooSteep spacing a b = ltb (100 * spacing) (16 * natAbs (b -ℤ a))
+
+unfoldable pub steepEast : Shape → List ℤ → ℕ → Bool
+steepEast s S k = ltb (k % s .cols + 1) (s .cols) && tooSteep (s .dlon) (node S k) (node S (k + 1))
+
+unfoldable pub steepNorth : Shape → List ℤ → ℕ → Bool
+steepNorth s S k = ltb (k + s .cols) (s .rows * s .cols) && tooSteep (s .dlat) (node S k) (node S (k + s .cols))
+
+unfoldable pub steepNode : Shape → List ℤ → ℕ → Bool
+steepNode s S k = steepEast s S k || steepNorth s S k
+
+unfoldable pub steepAt : Shape → (lat lon : List ℤ) → ℕ → Bool
+steepAt s lat lon k = steepNode s lat k || steepNode s lon k

@@ -1,0 +1,83 @@
+// One region's shift grid, which document 01 calls the sheet: its header, and the checks that a grid passes.
+// A grid is a header and two lent slices, the latitude and the longitude shifts of its nodes in hundred-thousandths of an arc
+// second. Nodes run from the southernmost row north, each row from west to east.
+mod nodes;
+mod rules;
+
+use figures::Nad27;
+use figures::Refusal;
+ghost use mathlib.Core.Path.{_≡_};
+ghost use Rattle.grid.specs.Check.{outcome, layout, verdict};
+ghost use Rattle.grid.specs.Nodes.{node, beyondRange, outOfRange};
+
+// South and west edge, spacing of rows and columns in thousandths of an arc second, number of rows and columns.
+pub struct Header {
+    pub south: Nad27,
+    pub west: Nad27,
+    pub dlat: i64,
+    pub dlon: i64,
+    pub rows: i64,
+    pub cols: i64,
+}
+
+// The header's sizes as natural numbers: what is left of it in local coordinates.
+pub struct Shape {
+    pub rows: usize,
+    pub cols: usize,
+    pub dlat: usize,
+    pub dlon: usize,
+}
+
+pub enum Checked {
+    Passes,
+    Refused(Refusal),
+}
+
+// The checks of a grid, in the order 2, 5, 3, 4: the first that it fails.
+pub fn check<'a>(h: Header, lat: &'a [i64], lon: &'a [i64]) -> Checked
+    ensures { λ r. ⌜ outcome r ≡ verdict h (now (lat .entry)) (now (lon .entry)) ⌝ }
+{
+    match check_layout(h, lat, lon) {
+        Checked::Refused(why) => Checked::Refused(why),
+        Checked::Passes => nodes::check_nodes(h.shape(), lat, lon),
+    }
+}
+
+// The checks that look at no node: 2, then 5.
+pub fn check_layout<'a>(h: Header, lat: &'a [i64], lon: &'a [i64]) -> Checked
+    ensures { λ r. ⌜ outcome r ≡ layout h (now (lat .entry)) (now (lon .entry)) ⌝ }
+{
+    let rule = h.broken_rule();
+    if rule != 0 {
+        return Checked::Refused(Refusal::Rule(rule));
+    }
+    let shape = h.shape();
+    let n = shape.rows * shape.cols;
+    if lat.len() < n {
+        return Checked::Refused(Refusal::NodeRoom(n));
+    }
+    if lon.len() < n {
+        return Checked::Refused(Refusal::NodeRoom(n));
+    }
+    Checked::Passes
+}
+
+// The shift of node `k`, and 0 past the end of the slice.
+pub fn node_shift(s: &[i64], k: usize) -> i64
+    ensures { λ r. ⌜ r ≡ node (now (s .entry)) k ⌝ }
+{
+    if k < s.len() {
+        return s[k];
+    }
+    0
+}
+
+// Whether node `k` has a shift beyond its range.
+pub fn out_of_range<'a>(lat: &'a [i64], lon: &'a [i64], k: usize) -> bool
+    ensures { λ r. ⌜ r ≡ outOfRange (now (lat .entry)) (now (lon .entry)) k ⌝ }
+{
+    if nodes::beyond_range(node_shift(lat, k)) {
+        return true;
+    }
+    nodes::beyond_range(node_shift(lon, k))
+}

@@ -1,0 +1,125 @@
+// The checks of the nodes: range, then steepness.
+use super::Checked;
+use super::Shape;
+use super::node_shift;
+use super::out_of_range;
+use super::rules::between;
+use super::rules::natural;
+use figures::Refusal;
+ghost use mathlib.Core.Path.{_≡_};
+ghost use Prim.Native.Nat.{_*_, _<_, _≤_};
+ghost use Rattle.laws.specs.Parts.{Within};
+ghost use Rattle.laws.specs.First.{first};
+ghost use Rattle.grid.specs.Nodes.{beyondRange, outOfRange, tooSteep, steepEast, steepNorth, steepNode, steepAt};
+ghost use Rattle.grid.specs.Check.{outcome, nodesVerdict};
+ghost use Rattle.grid.specs.Needs.{Extent, InRange};
+
+// The largest size of a shift, 60 arc seconds.
+const MAX_SHIFT: i64 = 6_000_000;
+
+pub(crate) fn check_nodes<'a>(shape: Shape, lat: &'a [i64], lon: &'a [i64]) -> Checked
+    requires { ⌜ Extent shape ⌝ }
+    ensures { λ r. ⌜ outcome r ≡ nodesVerdict shape (now (lat .entry)) (now (lon .entry)) ⌝ }
+{
+    let n = shape.rows * shape.cols;
+    let far = first_out_of_range(lat, lon, n);
+    if far < n {
+        return Checked::Refused(Refusal::Range(far));
+    }
+    let steep = first_steep(shape, lat, lon);
+    if steep < n {
+        return Checked::Refused(Refusal::Steep(steep));
+    }
+    Checked::Passes
+}
+
+fn first_out_of_range<'a>(lat: &'a [i64], lon: &'a [i64], n: usize) -> usize
+    ensures { λ r. ⌜ r ≡ first (outOfRange (now (lat .entry)) (now (lon .entry))) n ⌝ }
+{
+    let mut k: usize = 0;
+    while k < n {
+        if out_of_range(lat, lon, k) {
+            return k;
+        }
+        k += 1;
+    }
+    k
+}
+
+fn first_steep<'a>(shape: Shape, lat: &'a [i64], lon: &'a [i64]) -> usize
+    requires { ⌜ Extent shape ⌝ }
+    requires { ⌜ (InRange (shape .rows * shape .cols) (now lat)) × (InRange (shape .rows * shape .cols) (now lon)) ⌝ }
+    ensures { λ r. ⌜ r ≡ first (steepAt shape (now (lat .entry)) (now (lon .entry))) (shape .rows * shape .cols) ⌝ }
+{
+    let n = shape.rows * shape.cols;
+    let mut k: usize = 0;
+    while k < n {
+        if steep_at(shape, lat, lon, k) {
+            return k;
+        }
+        k += 1;
+    }
+    k
+}
+
+fn steep_at<'a>(shape: Shape, lat: &'a [i64], lon: &'a [i64], k: usize) -> bool
+    requires { ⌜ Extent shape ⌝ }
+    requires { ⌜ (InRange (shape .rows * shape .cols) (now lat)) × (InRange (shape .rows * shape .cols) (now lon)) × (k < shape .rows * shape .cols) ⌝ }
+    ensures { λ r. ⌜ r ≡ steepAt shape (now (lat .entry)) (now (lon .entry)) k ⌝ }
+{
+    if steep_node(shape, lat, k) {
+        return true;
+    }
+    steep_node(shape, lon, k)
+}
+
+fn steep_node(shape: Shape, s: &[i64], k: usize) -> bool
+    requires { ⌜ Extent shape ⌝ }
+    requires { ⌜ (InRange (shape .rows * shape .cols) (now s)) × (k < shape .rows * shape .cols) ⌝ }
+    ensures { λ r. ⌜ r ≡ steepNode shape (now (s .entry)) k ⌝ }
+{
+    if steep_east(shape, s, k) {
+        return true;
+    }
+    steep_north(shape, s, k)
+}
+
+// The last node of a row has no east neighbour.
+fn steep_east(shape: Shape, s: &[i64], k: usize) -> bool
+    requires { ⌜ Extent shape ⌝ }
+    requires { ⌜ (InRange (shape .rows * shape .cols) (now s)) × (k < shape .rows * shape .cols) ⌝ }
+    ensures { λ r. ⌜ r ≡ steepEast shape (now (s .entry)) k ⌝ }
+{
+    if k % shape.cols + 1 < shape.cols {
+        return too_steep(shape.dlon, node_shift(s, k), node_shift(s, k + 1));
+    }
+    false
+}
+
+// The nodes of the last row have no north neighbour.
+fn steep_north(shape: Shape, s: &[i64], k: usize) -> bool
+    requires { ⌜ Extent shape ⌝ }
+    requires { ⌜ (InRange (shape .rows * shape .cols) (now s)) × (k < shape .rows * shape .cols) ⌝ }
+    ensures { λ r. ⌜ r ≡ steepNorth shape (now (s .entry)) k ⌝ }
+{
+    if k + shape.cols < shape.rows * shape.cols {
+        return too_steep(shape.dlat, node_shift(s, k), node_shift(s, k + shape.cols));
+    }
+    false
+}
+
+fn too_steep(spacing: usize, a: i64, b: i64) -> bool
+    requires { ⌜ (spacing ≤ 900000) × (Within 6000000 a) × (Within 6000000 b) ⌝ }
+    ensures { λ r. ⌜ r ≡ tooSteep spacing a b ⌝ }
+{
+    if a < b {
+        return 100 * spacing < 16 * natural(b - a);
+    }
+    100 * spacing < 16 * natural(a - b)
+}
+
+pub(crate) fn beyond_range(x: i64) -> bool
+    ensures { λ r. ⌜ r ≡ beyondRange x ⌝ }
+{
+    !between(-MAX_SHIFT, x, MAX_SHIFT)
+}

@@ -1,0 +1,7 @@
+pub mod Parts
+pub mod Bounds
+pub mod Expr
+pub mod Tests
+pub mod Quotient
+pub mod Logic
+pub mod First

@@ -1,0 +1,40 @@
+-- Tests joined by `and` and `or`, and the order of the integers as a test.
+use mathlib.Core.Path.{_≡_, refl, sym, subst, _∙_}
+use mathlib.Core.Bool.{Bool, true, false, _&&_, _||_}
+use lib.Dec.{T}
+use lib.IntN.{ℤ}
+use lib.Signed.{leZ, ltZ, _≤ℤ_, _<ℤ_, leZ-yes, clashℤ}
+
+pub is-true : (t : Bool) → T t → t ≡ true
+is-true true h = refl
+is-true false h = absurd h
+
+pub is-false : (t : Bool) → (T t → ⊥) → t ≡ false
+is-false true h = absurd (h tt)
+is-false false h = refl
+
+pub not-both : {t : Bool} → t ≡ true → t ≡ false → ⊥
+not-both {t} e f = subst T (sym e ∙ f) tt
+
+pub neither : (a b : Bool) → (a || b) ≡ false → (a ≡ false) × (b ≡ false)
+neither true b e = absurd (subst T e tt)
+neither false b e = (refl, e)
+
+pub both : (a b : Bool) → (a && b) ≡ true → (a ≡ true) × (b ≡ true)
+both true true e = (refl, refl)
+both true false e = absurd (subst T (sym e) tt)
+both false b e = absurd (subst T (sym e) tt)
+
+-- where `a` holds and not both do, `b` does not
+pub second-fails : (a b : Bool) → (a && b) ≡ false → a ≡ true → b ≡ false
+second-fails true b e h = e
+second-fails false b e h = absurd (subst T (sym h) tt)
+
+pub leZ-true : {a b : ℤ} → a ≤ℤ b → leZ a b ≡ true
+leZ-true {a} {b} h = is-true (leZ a b) (h .le)
+
+pub leZ-false : {a b : ℤ} → b <ℤ a → leZ a b ≡ false
+leZ-false {a} {b} h = is-false (leZ a b) (λ t. clashℤ h (leZ-yes t))
+
+pub leZ-holds : {a b : ℤ} → leZ a b ≡ true → a ≤ℤ b
+leZ-holds e = leZ-yes (subst T (sym e) tt)
