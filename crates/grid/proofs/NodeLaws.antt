@@ -1,6 +1,6 @@
 -- Laws of range and steepness, node by node.
 use Prim.Native.Nat.{ℕ, _+_, _*_, _/_, _%_, _≤_, _<_}
-use mathlib.Core.Path.{_≡_, refl, _∙_}
+use mathlib.Core.Path.{_≡_}
 use mathlib.Core.Bool.{Bool, true, false, _||_}
 use mathlib.Core.List.{List}
 use native.Mathlib.Omega.{arith}
@@ -10,7 +10,7 @@ use lib.IntN.{ℤ, pos, natAbs, _-ℤ_}
 use lib.Signed.{_≤ℤ_, _<ℤ_}
 use Rattle.laws.specs.Parts.{posPart, Within, ints, parts-disjoint, abs-parts}
 use Rattle.laws.specs.Bounds.{own-size}
-use Rattle.laws.specs.Expr.{machine, linear, lit, bounded, reads, reads-within, _⊖_}
+use Rattle.laws.specs.Expr.{machine, linear, lit, ensured-within, ensured-reads, _⊖_}
 use Rattle.laws.specs.Logic.{neither, second-fails}
 use Rattle.grid.specs.Rules.{minus, between}
 use Rattle.grid.specs.Nodes.{node, beyondRange, tooSteep, steepEast, steepNorth, steepNode}
@@ -60,11 +60,8 @@ sound s S r g =
 
 -- what `node_shift` gave, read back as an argument
 module _ {n : ℕ} {S : List ℤ} (i : InRange n S) {k : ℕ} (l : k < n) {r : ℤ} (e : r ≡ node S k) where
-  within : Within 6000000 r
-  within = rw e (i .range k l)
-
   pub node-within : Within 6000000 (machine r)
-  node-within = reads-within (bounded within) tt
+  node-within = ensured-within e (i .range k l) tt
 
   pub node-reads : machine r ≡ node S k
-  node-reads = reads (bounded within) tt ∙ e
+  node-reads = ensured-reads e (i .range k l) tt

@@ -1,0 +1,5 @@
+pub mod Rounding
+pub mod Sums
+pub mod Cells
+pub mod Cases
+pub mod OnGrid

@@ -1,0 +1,224 @@
+-- The shift on a grid that passes the checks. Raised by 6,000,000 it is a natural number, the nearest to the bilinear surface through
+-- the raised nodes; so the theorems of `bilinear` hold of it.
+use Prim.Native.Nat.{ℕ, zero, suc, _+_, _*_, _-_, _%_, _≤_, _<_}
+use native.Mathlib.Nat.{mul-add-mod-self-right, mod-eq-of-lt, mul-pos, mul-le-mul-left, mul-le-mul-right}
+use native.Mathlib.Omega.{arith}
+use mathlib.Core.Path.{_≡_, refl, sym, ap, subst, _∙_}
+use mathlib.Core.Bool.{Bool, true, false}
+use mathlib.Core.List.{List}
+use lib.IntN.{ℤ, pos, natAbs, _+ℤ_, _-ℤ_, _*ℤ_}
+use lib.Signed.{_≤ℤ_}
+use Rattle.laws.specs.Parts.{posPart, negPart, ints, Within, parts-disjoint, abs-parts}
+use Rattle.laws.specs.Expr.{linear, lit, _⊕_, _⊖_, _⊛_}
+use Rattle.bilinear.specs.Axis.{Near, near16, on-axis, Among}
+use Rattle.bilinear.specs.Surface.{surface, SlopeBound, surface-is, Nearest}
+use Rattle.bilinear.specs.Answers.{lipschitz, shift-between, shift-node}
+use Rattle.bilinear.specs.Search.{Regular}
+use Rattle.figures.specs.Outcome.{Outcome, answered}
+use Rattle.grid.specs.Rules.{shape}
+use Rattle.grid.specs.Nodes.{node}
+use Rattle.grid.specs.Needs.{Extent}
+use Rattle.grid.specs.declared.Header.{Header}
+use Rattle.grid.specs.declared.Shape.{Shape}
+use Rattle.grid.proofs.RuleLaws.{Between, extent}
+use Rattle.grid.proofs.NodeLaws.{Sound}
+use Rattle.grid.proofs.Passing.{Good}
+use Rattle.shift.specs.Round.{nearest}
+use Rattle.shift.specs.Shift.{numerator, fourCorner, cornersAt, southwest, northwest, componentIn, cellAt, component, shiftOf, shiftOn, shiftAt}
+use Rattle.shift.specs.Needs.{CellIn, CornersIn}
+use Rattle.shift.specs.declared.Cell.{Cell}
+use Rattle.shift.specs.declared.Corners.{Corners}
+use Rattle.shift.proofs.Rounding.{nearest-raised, nearest-within}
+use Rattle.shift.proofs.Sums.{numerator-within}
+use Rattle.shift.proofs.Cells.{CellOf, edges, spacings, cell-of-point, cell-in, corners-in}
+use Rattle.shift.proofs.Cases.{node-not-beyond, none-beyond, on-grid, layout-passes}
+
+-- ---- raised shifts
+
+unfoldable pub raise : ℤ → ℕ
+raise z = posPart (z +ℤ pos 6000000)
+
+pub raise-is : {z : ℤ} → Within 6000000 z → pos (raise z) ≡ z +ℤ pos 6000000
+unfolding raise
+raise-is {z} h = omega (arith, ints, linear (lit z ⊕ lit (pos 6000000)), parts-disjoint (z +ℤ pos 6000000))
+
+pub raise-by : {z : ℤ} → Within 6000000 z → raise z + negPart z ≡ posPart z + 6000000
+raise-by {z} h = omega (arith, ints, raise-is h, linear (lit z ⊕ lit (pos 6000000)))
+
+lowered : (n : ℕ) (a b : ℤ) → a +ℤ pos n ≡ b +ℤ pos n → a ≡ b
+lowered n a b e = omega (arith, ints, linear (lit a ⊕ lit (pos n)), linear (lit b ⊕ lit (pos n)))
+
+-- a step that is not too steep
+near-raised : (d : ℕ) {a b : ℤ} → Within 6000000 a → Within 6000000 b → 16 * natAbs (b -ℤ a) ≤ 100 * d → Near (25 * d) (raise a) (raise b)
+near-raised d {a} {b} p q h =
+    near16 d (raise a) (raise b) .1 (omega (arith, ints, raise-by p, raise-by q, abs-parts (b -ℤ a), linear (lit b ⊖ lit a)))
+
+-- ---- the numerator
+
+-- a corner's term, raised
+term : {S : ℤ} (p q : ℕ) → Within 6000000 S → let t = S *ℤ pos p *ℤ pos q in raise S * p * q + negPart t ≡ posPart t + 6000000 * (p * q)
+term {S} p q h = omega (arith, ap (λ t. t * (p * q)) (raise-by h), linear (lit S ⊛ lit (pos p) ⊛ lit (pos q)))
+
+-- raised corners give the raised numerator
+numerator-raised : (s : Corners) (k : Cell) → CornersIn s
+    → pos (raise (s .s1) * k .b * k .d + raise (s .s2) * k .a * k .d + raise (s .s3) * k .b * k .c + raise (s .s4) * k .a * k .c)
+    ≡ numerator s k +ℤ pos (6000000 * ((k .a + k .b) * (k .c + k .d)))
+unfolding numerator
+numerator-raised s k i =
+    let t₁ = lit (s .s1 *ℤ pos (k .b) *ℤ pos (k .d)) in
+    let t₂ = lit (s .s2 *ℤ pos (k .a) *ℤ pos (k .d)) in
+    let t₃ = lit (s .s3 *ℤ pos (k .b) *ℤ pos (k .c)) in
+    let t₄ = lit (s .s4 *ℤ pos (k .a) *ℤ pos (k .c)) in
+    omega
+    (arith, ints, linear (t₁ ⊕ t₂ ⊕ t₃ ⊕ t₄ ⊕ lit (pos (6000000 * ((k .a + k .b) * (k .c + k .d))))), term (k .b) (k .d) (i .sw), term (k .a) (k .d) (i .se), term (k .b) (k .c) (i .nw), term (k .a) (k .c) (i .ne))
+
+-- ---- one component of a grid that passes
+
+-- the raised nodes, by row and column
+abbrev pub raisedNodes : ℕ → List ℤ → ℕ → ℕ → ℕ
+raisedNodes cols S r c = raise (node S (r * cols + c))
+
+module _ {s : Shape} (z : Extent s) {S : List ℤ} (p : Sound s S) where
+  index-in : (r c : ℕ) → r < s .rows → c < s .cols → r * s .cols + c < s .rows * s .cols
+  index-in r c hr hc = omega (arith, mul-le-mul-right (s .cols) hr)
+
+  node-range : (r c : ℕ) → r < s .rows → c < s .cols → Within 6000000 (node S (r * s .cols + c))
+  node-range r c hr hc = p .ranged .range _ (index-in r c hr hc)
+
+  slopes : SlopeBound (s .dlon) (s .dlat) (s .cols - 2) (s .rows - 2) (raisedNodes (s .cols) S)
+  slopes =
+      record {
+        east = λ r c hr hc.
+            let i : r < s .rows = omega (arith, z) in
+            let j : suc c < s .cols = omega (arith, z) in
+            let e : r * s .cols + c + 1 ≡ r * s .cols + suc c = omega arith in
+            let m : (r * s .cols + c) % s .cols ≡ c = mul-add-mod-self-right r (s .cols) c ∙ mod-eq-of-lt (omega arith) in
+            near-raised (s .dlon) (node-range r c i (omega arith)) (node-range r (suc c) i j)
+            (rw e at (p .east (r * s .cols + c) (index-in r c i (omega arith)) (omega (arith, m))));
+        north = λ r c hr hc.
+            let i : suc r < s .rows = omega (arith, z) in
+            let j : c < s .cols = omega (arith, z) in
+            let e : r * s .cols + c + s .cols ≡ suc r * s .cols + c = omega arith in
+            near-raised (s .dlat) (node-range r c (omega arith) j) (node-range (suc r) c i j)
+            (rw e at (p .north (r * s .cols + c) (omega (arith, index-in (suc r) c i j))));
+      }
+
+  -- in any cell of the grid
+  module _ {k : Cell} (c : CellIn s k) where
+    pub corners-range : CornersIn (cornersAt S (southwest (s .cols) k) (northwest (s .cols) k))
+    corners-range =
+        let l = corners-in z c in
+        record {
+          sw = p .ranged .range _ (omega (arith, l));
+          se = p .ranged .range _ (omega (arith, l));
+          nw = p .ranged .range _ (omega (arith, l));
+          ne = p .ranged .range _ l;
+        }
+
+    whole : (k .a + k .b) * (k .c + k .d) ≡ s .dlon * s .dlat
+    whole = rw (c .width, c .height)
+
+    component-is : componentIn (s .cols) S k ≡ nearest (s .dlon * s .dlat) (numerator (cornersAt S (southwest (s .cols) k) (northwest (s .cols) k)) k)
+    unfolding componentIn fourCorner
+    component-is = rw whole
+
+    pub component-range : Within 6000000 (componentIn (s .cols) S k)
+    component-range =
+        rw component-is
+        (nearest-within 6000000 (s .dlon * s .dlat) _ (mul-pos (spacings z .0) (spacings z .1))
+        (rw whole at (numerator-within (cornersAt S (southwest (s .cols) k) (northwest (s .cols) k)) k corners-range)))
+
+  -- in any cell of a point the numerator is the surface's
+  module _ {x y : ℕ} {k : Cell} (o : CellOf s x y k) where
+    abbrev corners : Corners
+    corners = cornersAt S (southwest (s .cols) k) (northwest (s .cols) k)
+
+    se : k .row * s .cols + suc (k .col) ≡ southwest (s .cols) k + 1
+    se = omega arith
+
+    nw : suc (k .row) * s .cols + k .col ≡ northwest (s .cols) k
+    nw = omega arith
+
+    ne : suc (k .row) * s .cols + suc (k .col) ≡ northwest (s .cols) k + 1
+    ne = omega arith
+
+    numerator-is : pos (surface (s .dlon) (s .dlat) (s .cols - 2) (s .rows - 2) (raisedNodes (s .cols) S) x y)
+        ≡ numerator corners k +ℤ pos (6000000 * (s .dlon * s .dlat))
+    numerator-is =
+        let n = rw (se, nw, ne) at (surface-is (s .dlon) (s .dlat) (s .cols - 2) (s .rows - 2) (spacings z .0) (spacings z .1) (raisedNodes (s .cols) S) (o .along) (o .up)) in
+        ap pos n ∙ (rw (whole (cell-in z o)) at (numerator-raised corners k (corners-range (cell-in z o))))
+
+    component-nearest : Nearest (s .dlon * s .dlat) (surface (s .dlon) (s .dlat) (s .cols - 2) (s .rows - 2) (raisedNodes (s .cols) S) x y) (raise (componentIn (s .cols) S k))
+    component-nearest =
+        let c = cell-in z o in
+        nearest-raised 6000000 (s .dlon * s .dlat) _ _ _ (mul-pos (spacings z .0) (spacings z .1)) numerator-is (raise-is (component-range c) ∙ ap (λ t. t +ℤ pos 6000000) (component-is c))
+
+  -- "On a side shared by two cells either cell gives the same shift"
+  pub shared-side : {x y : ℕ} {k k' : Cell} → CellOf s x y k → CellOf s x y k' → componentIn (s .cols) S k ≡ componentIn (s .cols) S k'
+  shared-side o o' =
+      component-is (cell-in z o)
+      ∙ ap (nearest (s .dlon * s .dlat)) (lowered (6000000 * (s .dlon * s .dlat)) _ _ (sym (numerator-is o) ∙ numerator-is o'))
+      ∙ sym (component-is (cell-in z o'))
+
+  -- at a point of the grid
+  module _ {x y : ℕ} (hx : x ≤ (s .cols - 1) * s .dlon) (hy : y ≤ (s .rows - 1) * s .dlat) where
+    pub shift-range : Within 6000000 (component s S x y)
+    unfolding component
+    shift-range = component-range (cell-in z (cell-of-point z hx hy))
+
+    shift-nearest : Nearest (s .dlon * s .dlat) (surface (s .dlon) (s .dlat) (s .cols - 2) (s .rows - 2) (raisedNodes (s .cols) S) x y) (raise (component s S x y))
+    unfolding component
+    shift-nearest = component-nearest (cell-of-point z hx hy)
+
+  -- the same, as `bilinear` asks for it
+  nearest-everywhere : (x y : ℕ) → x ≤ s .dlon * suc (s .cols - 2) → y ≤ s .dlat * suc (s .rows - 2)
+      → Nearest (s .dlon * s .dlat) (surface (s .dlon) (s .dlat) (s .cols - 2) (s .rows - 2) (raisedNodes (s .cols) S) x y) (raise (component s S x y))
+  nearest-everywhere x y hx hy = shift-nearest (rw (← edges z .0) hx) (rw (← edges z .1) hy)
+
+  -- it changes slowly and is in its range
+  pub shift-regular : Regular ((s .cols - 1) * s .dlon) ((s .rows - 1) * s .dlat) (λ x y. raise (component s S x y))
+  shift-regular =
+      record {
+        slow =
+            rw (← edges z .0, ← edges z .1)
+            (lipschitz (s .dlon) (s .dlat) (s .cols - 2) (s .rows - 2) (spacings z .0) (spacings z .1) (raisedNodes (s .cols) S) _ nearest-everywhere slopes);
+        fits = λ x y hx hy. let k = shift-range hx hy in omega (arith, ints, raise-by k);
+      }
+
+  -- at a node it is the node's
+  pub node-shift-is : (r c : ℕ) → r < s .rows → c < s .cols → component s S (s .dlon * c) (s .dlat * r) ≡ node S (r * s .cols + c)
+  node-shift-is r c hr hc =
+      let hx : s .dlon * c ≤ (s .cols - 1) * s .dlon = rw (← edges z .0) (mul-le-mul-left (s .dlon) (omega arith)) in
+      let hy : s .dlat * r ≤ (s .rows - 1) * s .dlat = rw (← edges z .1) (mul-le-mul-left (s .dlat) (omega arith)) in
+      let e = shift-node (s .dlon) (s .dlat) (s .cols - 2) (s .rows - 2) (spacings z .0) (spacings z .1) (raisedNodes (s .cols) S) _ nearest-everywhere r c (omega (arith, z)) (omega (arith, z)) in
+      lowered 6000000 _ _ (sym (raise-is (shift-range hx hy)) ∙ ap pos e ∙ raise-is (node-range r c hr hc))
+
+  -- and at every point it lies between the least and the greatest corner of any cell of the point
+  module _ {x y : ℕ} {k : Cell} (o : CellOf s x y k) {lo hi : ℤ} (l : Within 6000000 lo) (h : Within 6000000 hi) where
+    raised-among : {S' : ℤ} → Within 6000000 S' → Between lo S' hi → Among (raise lo) (raise hi) (raise S')
+    raised-among w b = record { low = omega (arith, ints, b .low, raise-by l, raise-by w); high = omega (arith, ints, b .high, raise-by h, raise-by w) }
+
+    pub between-corners : (let t = corners o in Between lo (t .s1) hi × Between lo (t .s2) hi × Between lo (t .s3) hi × Between lo (t .s4) hi)
+        → Between lo (component s S x y) hi
+    between-corners b =
+        let i = corners-range (cell-in z o) in
+        let w = shift-range {x = x} {y = y} (rw (← edges z .0) (on-axis (o .along))) (rw (← edges z .1) (on-axis (o .up))) in
+        let m = shift-between (s .dlon) (s .dlat) (s .cols - 2) (s .rows - 2) (spacings z .0) (spacings z .1) (raisedNodes (s .cols) S) _ nearest-everywhere (o .along) (o .up)
+        (raised-among (i .sw) (b .0)) (rw (se o) (raised-among (i .se) (b .1))) (rw (nw o) (raised-among (i .nw) (b .2))) (rw (ne o) (raised-among (i .ne) (b .3))) in
+        record { low = omega (arith, ints, m .low, raise-by l, raise-by w); high = omega (arith, ints, m .high, raise-by h, raise-by w) }
+
+-- ---- both components of a grid that passes
+
+module _ {h : Header} {lat lon : List ℤ} (g : Good h lat lon) {x y : ℕ}
+    (hx : x ≤ (shape h .cols - 1) * shape h .dlon) (hy : y ≤ (shape h .rows - 1) * shape h .dlat) where
+  -- the routine refuses no point of it
+  pub shift-answered : shiftAt h lat lon x y ≡ answered (shiftOf (shape h) lat lon x y)
+  unfolding component
+  shift-answered =
+      let z = extent (g .header) in
+      let c = cell-in z (cell-of-point z hx hy) in
+      let i = corners-range z (g .of-lat) c in
+      let j = corners-range z (g .of-lon) c in
+      sym (layout-passes h lat lon x y (sym (g .laid-out)))
+      ∙ sym (on-grid (shape h) lat lon x y hx hy)
+      ∙ sym (none-beyond (shape h) lat lon (cellAt (shape h) x y) (node-not-beyond lat lon _ (i .sw) (j .sw)) (node-not-beyond lat lon _ (i .se) (j .se)) (node-not-beyond lat lon _ (i .nw) (j .nw)) (node-not-beyond lat lon _ (i .ne) (j .ne)))

@@ -1,0 +1,28 @@
+-- What the private functions ask of their arguments.
+use Prim.Native.Nat.{ℕ, suc, _+_, _≤_, _<_}
+use mathlib.Core.Path.{_≡_}
+use Rattle.laws.specs.Parts.{Within}
+use Rattle.grid.specs.declared.Shape.{Shape}
+use Rattle.shift.specs.declared.Cell.{Cell}
+use Rattle.shift.specs.declared.Corners.{Corners}
+
+-- a cell of the grid, with distances that make up its sides
+pub record CellIn (s : Shape) (k : Cell) : Type 0 where
+  pub row-in : suc (k .row) < s .rows
+  pub col-in : suc (k .col) < s .cols
+  pub width : k .a + k .b ≡ s .dlon
+  pub height : k .c + k .d ≡ s .dlat
+
+-- distances that keep the numerator and the denominator small
+pub record Weighted (k : Cell) : Type 0 where
+  pub wide : 0 < k .a + k .b
+  pub narrow : k .a + k .b ≤ 900_000
+  pub high : 0 < k .c + k .d
+  pub low : k .c + k .d ≤ 900_000
+
+-- corners in their range
+pub record CornersIn (s : Corners) : Type 0 where
+  pub sw : Within 6000000 (s .s1)
+  pub se : Within 6000000 (s .s2)
+  pub nw : Within 6000000 (s .s3)
+  pub ne : Within 6000000 (s .s4)
