@@ -21,3 +21,7 @@ andThen (refused n k) o = refused n k
 abbrev pub refuseIf : {A : Type 0} → Bool → (number place : ℕ) → Outcome A → Outcome A
 refuseIf true n k o = refused n k
 refuseIf false n k o = o
+
+abbrev pub mapAnswer : {A B : Type 0} → (A → B) → Outcome A → Outcome B
+mapAnswer f (answered a) = answered (f a)
+mapAnswer f (refused n k) = refused n k

@@ -3,7 +3,9 @@ use mathlib.Core.Path.{_≡_, refl, sym, subst, _∙_}
 use mathlib.Core.Bool.{Bool, true, false, _&&_, _||_}
 use lib.Dec.{T}
 use lib.IntN.{ℤ}
-use lib.Signed.{leZ, ltZ, _≤ℤ_, _<ℤ_, leZ-yes, clashℤ}
+use lib.Signed.{leZ, _≤ℤ_, _<ℤ_, leZ-yes, clashℤ, ≤ℤ-refl}
+use native.Mathlib.Omega.{arith}
+use Rattle.laws.specs.Parts.{ints}
 
 pub is-true : (t : Bool) → T t → t ≡ true
 is-true true h = refl
@@ -38,3 +40,19 @@ leZ-false {a} {b} h = is-false (leZ a b) (λ t. clashℤ h (leZ-yes t))
 
 pub leZ-holds : {a b : ℤ} → leZ a b ≡ true → a ≤ℤ b
 leZ-holds e = leZ-yes (subst T (sym e) tt)
+
+-- equality as a test
+unfoldable pub eqZ : ℤ → ℤ → Bool
+eqZ a b = leZ a b && leZ b a
+
+pub eqZ-holds : {a b : ℤ} → eqZ a b ≡ true → a ≡ b
+unfolding eqZ
+eqZ-holds {a} {b} e =
+    let s = both (leZ a b) (leZ b a) e in
+    let p : a ≤ℤ b = leZ-holds (s .0) in
+    let q : b ≤ℤ a = leZ-holds (s .1) in
+    omega (arith, ints)
+
+pub eqZ-true : {a b : ℤ} → a ≡ b → eqZ a b ≡ true
+unfolding eqZ
+eqZ-true {a} e = rw (e, leZ-true (≤ℤ-refl _))

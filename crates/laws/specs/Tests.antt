@@ -3,7 +3,8 @@ use mathlib.Core.Path.{_≡_, refl, sym, ap, subst, _∙_}
 use Prim.Native.Nat.{_<_, _^_}
 use native.Mathlib.Omega.{arith}
 use mathlib.Core.Bool.{Bool, true, false, not, _&&_}
-use lib.Dec.{T}
+use lib.Dec.{T, eqb}
+use borrow.Author.Tests.{eqb-true, eqb-false}
 use lib.IntN.{ℤ, pos, negsuc, natAbs}
 use lib.Signed.{mag, nonNeg, ltZ, leZ, _<ℤ_, _≤ℤ_, ltZ-yes, ltZ-no, leZ-yes, yes-nonNeg, pos-natAbs}
 use mir.Syntax.{w64}
@@ -11,6 +12,7 @@ use mir.Val.{SFits, Fits, ofZ, toZ}
 use mir.Facts.{and-yes, toZ-ofZ, fits-natAbs}
 use Rattle.laws.specs.Parts.{posPart, leZ-no, ints}
 use Rattle.laws.specs.Expr.{Expr, machine, reads, reads₂}
+use Rattle.laws.specs.Logic.{not-both, eqZ, eqZ-holds, eqZ-true}
 
 -- a and b are what is compared, as `fitting (c .fits .x)` for a parameter x
 is-true : {t : Bool} → t ≡ true → T t
@@ -56,3 +58,13 @@ part-whole {x = negsuc n} h = absurd (h .le)
 -- what is read of a slice, as it comes back from the machine
 pub element : {z : ℤ} → mag z < 2 ^ 63 → machine z ≡ z
 element h = toZ-ofZ (record { sfits = h })
+
+-- so the test of the bits is the test of the numbers
+pub eq-bits : {x y : ℤ} → SFits w64 x → SFits w64 y → eqb (ofZ w64 x) (ofZ w64 y) ≡ eqZ x y
+eq-bits {x} {y} f g = go (eqb (ofZ w64 x) (ofZ w64 y)) refl (eqZ x y) refl
+  where
+    go : (a : Bool) → eqb (ofZ w64 x) (ofZ w64 y) ≡ a → (b : Bool) → eqZ x y ≡ b → a ≡ b
+    go true p true q = refl
+    go true p false q = absurd (not-both (eqZ-true (eq-yes f g (eqb-true _ _ p))) q)
+    go false p true q = absurd (eqb-false _ _ p (ap (ofZ w64) (eqZ-holds q)))
+    go false p false q = refl

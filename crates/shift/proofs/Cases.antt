@@ -1,22 +1,30 @@
 -- Each answer of the code, from the tests that it has passed.
 use Prim.Native.Nat.{ℕ, _+_, _*_, _-_, _≤_, _<_}
-use mathlib.Core.Path.{_≡_, refl}
+use mathlib.Core.Path.{_≡_, subst}
 use mathlib.Core.Bool.{Bool, true, false, _||_}
 use mathlib.Core.List.{List}
-use borrow.Author.Tests.{lt-ltb, le-ltb}
+use lib.Dec.{ltb}
+use borrow.Author.Tests.{lt-ltb, le-ltb, ltb-false}
 use lib.IntN.{ℤ}
 use Rattle.laws.specs.Parts.{Within}
 use Rattle.laws.specs.Logic.{neither}
 use Rattle.figures.specs.Outcome.{Outcome, answered, refused, andThen, refuseIf}
+use Rattle.figures.proofs.Laws.{both-answered, not-refused}
 use Rattle.grid.specs.Rules.{shape}
 use Rattle.grid.specs.Nodes.{node, beyondRange, outOfRange}
 use Rattle.grid.specs.Check.{layout}
 use Rattle.grid.specs.declared.Header.{Header}
 use Rattle.grid.specs.declared.Shape.{Shape}
+use Rattle.grid.specs.Needs.{Extent}
+use Rattle.grid.proofs.RuleLaws.{extent}
 use Rattle.grid.proofs.NodeLaws.{in-range, not-beyond}
-use Rattle.shift.specs.Shift.{cornersAt, southwest, northwest, bothIn, cellAt, shiftIn, shiftOn, shiftAt}
-use Rattle.shift.specs.Needs.{CornersIn}
+use Rattle.grid.proofs.Passing.{laid}
+use Rattle.shift.specs.Shift.{cornersAt, southwest, northwest, componentIn, bothIn, cellAt, shiftIn, shiftOn, shiftAt}
+use Rattle.shift.specs.Needs.{CellIn, CornersIn}
 use Rattle.shift.specs.declared.Cell.{Cell}
+use Rattle.shift.specs.declared.Shift.{Shift}
+use Rattle.shift.proofs.Sums.{four-corner-within}
+use Rattle.shift.proofs.Cells.{weighted, cell-of-point, cell-in}
 
 node-in : (lat lon : List ℤ) (k : ℕ) → outOfRange lat lon k ≡ false → Within 6000000 (node lat k) × Within 6000000 (node lon k)
 unfolding outOfRange
@@ -85,3 +93,34 @@ module _ (h : Header) (lat lon : List ℤ) (x y : ℕ) where
   pub layout-passes : answered tt ≡ layout h lat lon → shiftOn (shape h) lat lon x y ≡ shiftAt h lat lon x y
   unfolding shiftAt
   layout-passes e = rw (← e)
+
+-- ---- whatever is answered is in range
+
+module _ (s : Shape) (z : Extent s) (lat lon : List ℤ) where
+  in-cell-range : (k : Cell) → CellIn s k → {r : Shift} → shiftIn s lat lon k ≡ answered r → Within 6000000 (r .lat) × Within 6000000 (r .lon)
+  unfolding shiftIn componentIn
+  in-cell-range k c {r} e =
+      let i = southwest (s .cols) k in
+      let j = northwest (s .cols) k in
+      let t₁ = not-refused (outOfRange lat lon i) 3 i _ e in
+      let t₂ = not-refused (outOfRange lat lon (i + 1)) 3 (i + 1) _ (t₁ .1) in
+      let t₃ = not-refused (outOfRange lat lon j) 3 j _ (t₂ .1) in
+      let t₄ = not-refused (outOfRange lat lon (j + 1)) 3 (j + 1) _ (t₃ .1) in
+      let w = weighted z c in
+      let p = four-corner-within _ k (corners-lat s lat lon k (t₁ .0) (t₂ .0) (t₃ .0) (t₄ .0)) w in
+      let q = four-corner-within _ k (corners-lon s lat lon k (t₁ .0) (t₂ .0) (t₃ .0) (t₄ .0)) w in
+      let u : bothIn (s .cols) lat lon k ≡ r = let v = t₄ .1 in cc in
+      (subst (λ (t : Shift). Within 6000000 (t .lat)) u p, subst (λ (t : Shift). Within 6000000 (t .lon)) u q)
+
+  on-range : (x y : ℕ) {r : Shift} → shiftOn s lat lon x y ≡ answered r → Within 6000000 (r .lat) × Within 6000000 (r .lon)
+  unfolding shiftOn
+  on-range x y e =
+      let t = not-refused (ltb ((s .cols - 1) * s .dlon) x || ltb ((s .rows - 1) * s .dlat) y) 6 0 _ e in
+      let o = neither (ltb ((s .cols - 1) * s .dlon) x) (ltb ((s .rows - 1) * s .dlat) y) (t .0) in
+      in-cell-range (cellAt s x y) (cell-in z (cell-of-point z (ltb-false _ _ (o .0)) (ltb-false _ _ (o .1)))) (t .1)
+
+pub shift-at-range : (h : Header) (lat lon : List ℤ) (x y : ℕ) {r : Shift} → shiftAt h lat lon x y ≡ answered r → Within 6000000 (r .lat) × Within 6000000 (r .lon)
+unfolding shiftAt
+shift-at-range h lat lon x y e =
+    let t = both-answered (layout h lat lon) (shiftOn (shape h) lat lon x y) e in
+    on-range (shape h) (extent (laid h lat lon (t .0 .1) .header)) lat lon x y (t .1)

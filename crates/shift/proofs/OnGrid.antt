@@ -24,19 +24,16 @@ use Rattle.grid.proofs.RuleLaws.{Between, extent}
 use Rattle.grid.proofs.NodeLaws.{Sound}
 use Rattle.grid.proofs.Passing.{Good}
 use Rattle.shift.specs.Round.{nearest}
-use Rattle.shift.specs.Shift.{numerator, fourCorner, cornersAt, southwest, northwest, componentIn, cellAt, component, shiftOf, shiftOn, shiftAt}
+use Rattle.shift.specs.Shift.{numerator, fourCorner, cornersAt, southwest, northwest, componentIn, cellAt, component, shiftOf, shiftOn, shiftAt, raise}
 use Rattle.shift.specs.Needs.{CellIn, CornersIn}
 use Rattle.shift.specs.declared.Cell.{Cell}
 use Rattle.shift.specs.declared.Corners.{Corners}
-use Rattle.shift.proofs.Rounding.{nearest-raised, nearest-within}
-use Rattle.shift.proofs.Sums.{numerator-within}
-use Rattle.shift.proofs.Cells.{CellOf, edges, spacings, cell-of-point, cell-in, corners-in}
+use Rattle.shift.proofs.Rounding.{nearest-raised}
+use Rattle.shift.proofs.Sums.{four-corner-within}
+use Rattle.shift.proofs.Cells.{CellOf, edges, spacings, cell-of-point, cell-in, corners-in, weighted}
 use Rattle.shift.proofs.Cases.{node-not-beyond, none-beyond, on-grid, layout-passes}
 
 -- ---- raised shifts
-
-unfoldable pub raise : ℤ → ℕ
-raise z = posPart (z +ℤ pos 6000000)
 
 pub raise-is : {z : ℤ} → Within 6000000 z → pos (raise z) ≡ z +ℤ pos 6000000
 unfolding raise
@@ -123,10 +120,8 @@ module _ {s : Shape} (z : Extent s) {S : List ℤ} (p : Sound s S) where
     component-is = rw whole
 
     pub component-range : Within 6000000 (componentIn (s .cols) S k)
-    component-range =
-        rw component-is
-        (nearest-within 6000000 (s .dlon * s .dlat) _ (mul-pos (spacings z .0) (spacings z .1))
-        (rw whole at (numerator-within (cornersAt S (southwest (s .cols) k) (northwest (s .cols) k)) k corners-range)))
+    unfolding componentIn
+    component-range = four-corner-within _ k corners-range (weighted z c)
 
   -- in any cell of a point the numerator is the surface's
   module _ {x y : ℕ} {k : Cell} (o : CellOf s x y k) where

@@ -1,15 +1,16 @@
 -- The size of the sum over the corners: the weights share the cell, so it is no larger than one shift at the whole weight.
 use Prim.Native.Nat.{ℕ, _+_, _*_, _≤_}
-use native.Mathlib.Nat.{mul-le-mul, mul-le-mul-right}
+use native.Mathlib.Nat.{mul-pos, mul-le-mul, mul-le-mul-right}
 use native.Mathlib.Omega.{arith}
 use mathlib.Core.Path.{_≡_, ap, _∙_}
 use lib.IntN.{ℤ, pos, natAbs, _+ℤ_, _*ℤ_}
 use Rattle.laws.specs.Parts.{Within}
 use Rattle.laws.specs.Bounds.{abs-add, abs-mul}
-use Rattle.shift.specs.Shift.{numerator}
+use Rattle.shift.specs.Shift.{numerator, fourCorner}
 use Rattle.shift.specs.Needs.{Weighted, CornersIn}
 use Rattle.shift.specs.declared.Cell.{Cell}
 use Rattle.shift.specs.declared.Corners.{Corners}
+use Rattle.shift.proofs.Rounding.{nearest-within}
 
 term-size : (S : ℤ) (p q : ℕ) → natAbs (S *ℤ pos p *ℤ pos q) ≡ natAbs S * p * q
 term-size S p q = abs-mul (S *ℤ pos p) (pos q) ∙ ap (λ t. t * q) (abs-mul S (pos p))
@@ -58,3 +59,8 @@ module _ (s : Corners) (k : Cell) (i : CornersIn s) where
 
     pub four-within : Within 4860000000000000000 four
     four-within = record { size = omega (arith, four-size, sizes, whole) }
+
+    -- and a mean of shifts in range is in range
+    pub four-corner-within : Within 6000000 (fourCorner s k)
+    unfolding fourCorner
+    four-corner-within = nearest-within 6000000 ((k .a + k .b) * (k .c + k .d)) _ (mul-pos (w .wide) (w .high)) numerator-within

@@ -4,6 +4,7 @@ use mathlib.Core.Bool.{_||_}
 use mathlib.Core.List.{List}
 use lib.Dec.{ltb}
 use lib.IntN.{ℤ, pos, _+ℤ_, _*ℤ_}
+use Rattle.laws.specs.Parts.{posPart}
 use Rattle.bilinear.specs.Axis.{cellOf}
 use Rattle.figures.specs.Outcome.{Outcome, answered, refusal, andThen, refuseIf}
 use Rattle.grid.specs.Rules.{shape}
@@ -84,3 +85,7 @@ shiftOn s lat lon x y =
 
 unfoldable pub shiftAt : Header → (lat lon : List ℤ) → (x y : ℕ) → Outcome Shift
 shiftAt h lat lon x y = andThen (layout h lat lon) (shiftOn (shape h) lat lon x y)
+
+-- a shift in its range, raised so that it is a natural number: for the search of the way back, and for the theorems
+unfoldable pub raise : ℤ → ℕ
+raise z = posPart (z +ℤ pos 6000000)

@@ -2,6 +2,7 @@
 // A point is given by its distances from the southwest corner of the grid, in thousandths of an arc second.
 mod interpolation;
 mod locate;
+
 use figures::Refusal;
 use grid::Checked;
 use grid::Header;

@@ -43,13 +43,15 @@ mul-denominator c = omega (arith, whole (c .before .before .before .before .befo
 numerator-requires : tie.Need-numerator-requires
 numerator-requires c κs =
     let s = c .before .before .before .before .before .before in
-    let i = s .pre .2 in
-    (record {
-      sw = ensured-within (c .before .before .before .before .before .node-shift .ensures) (i .sw) tt;
-      se = ensured-within (c .before .before .before .before .node-shift2 .ensures) (i .se) tt;
-      nw = ensured-within (c .before .before .before .node-shift3 .ensures) (i .nw) tt;
-      ne = ensured-within (c .before .before .node-shift4 .ensures) (i .ne) tt;
-    }, s .pre .3)
+    let i = s .pre .2 in (
+      record {
+        sw = ensured-within (c .before .before .before .before .before .node-shift .ensures) (i .sw) tt;
+        se = ensured-within (c .before .before .before .before .node-shift2 .ensures) (i .se) tt;
+        nw = ensured-within (c .before .before .before .node-shift3 .ensures) (i .nw) tt;
+        ne = ensured-within (c .before .before .node-shift4 .ensures) (i .ne) tt;
+      },
+      s .pre .3,
+    )
 
 rounded-requires : tie.Need-rounded-requires
 rounded-requires c κs = let s = c .before .before .before .before .before .before .before in (reads-within (bounded (c .numerator .ensures .1)) tt, mul-pos (s .pre .3 .wide) (s .pre .3 .high), whole s)

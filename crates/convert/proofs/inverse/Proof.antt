@@ -1,0 +1,34 @@
+use Rattle.convert.proofs.Cases.{inverse-refused, inverse-passes}
+use Rattle.grid.specs.Check.{outcome as layoutOutcome}
+use mathlib.Core.Path.{_≡_, sym, ap, _∙_}
+use borrow.Author.Needs.{needs}
+use Rattle.convert.proofs.inverse.Statement.{statement}
+use Rattle.convert.proofs.inverse.Tie as tie
+
+check-layout-requires : tie.Need-check-layout-requires
+check-layout-requires c κs = search needs
+
+enum-known-why : tie.Need-enum-known-why
+enum-known-why c = search needs
+
+enum-told : tie.Need-enum-told
+enum-told c = search needs
+
+inverse-on-requires : tie.Need-inverse-on-requires
+inverse-on-requires c κs = sym (c .before .before .check-layout .ensures) ∙ ap layoutOutcome (c .enum-told .given .1)
+
+returns : tie.Need-returns
+returns c =
+    let a = c .before .before .before .before .args in
+    let e = inverse-refused (a .h) (a .lat .now) (a .lon .now) (a .f) (ap layoutOutcome (sym (c .before .why .given .1)) ∙ c .before .before .before .check-layout .ensures) in
+    (e, λ k. e ∙ inverse-passes (a .h) (a .lat .now) (a .lon .now) (a .f) k)
+
+returns-2 : tie.Need-returns-2
+returns-2 c =
+    let a = c .before .before .before .before .args in
+    (c .inverse-on .ensures, λ k. c .inverse-on .ensures ∙ inverse-passes (a .h) (a .lat .now) (a .lon .now) (a .f) k)
+
+pub inverse-spec : {M : Type 1} → statement M
+inverse-spec =
+    tie.close
+    (tie.spec check-layout-requires enum-known-why enum-told inverse-on-requires returns returns-2)

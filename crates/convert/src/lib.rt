@@ -1,0 +1,141 @@
+// Points from NAD 27 to NAD 83 and back, over a grid.
+mod offsets;
+mod search;
+
+use figures::Nad83;
+use figures::Point27;
+use figures::Point83;
+use figures::Refusal;
+use grid::Checked;
+use grid::Header;
+use offsets::Place;
+use shift::Interpolated;
+use shift::Shift;
+ghost use mathlib.Core.Path.{_≡_};
+ghost use lib.IntN.{ℤ, pos, _+ℤ_, _*ℤ_};
+ghost use Rattle.laws.specs.Parts.{Within};
+ghost use Rattle.figures.specs.Outcome.{answered};
+ghost use Rattle.grid.specs.Check.{layout, Passes};
+ghost use Rattle.convert.specs.Points.{samePoint, answerOf};
+ghost use Rattle.convert.specs.Convert.{outcome83, outcome27, to83, to27, forward, Returned, confirm, settle, inverse};
+
+pub enum Answer83 {
+    Point(Point83),
+    Refused(Refusal),
+}
+
+pub enum Answer27 {
+    Point(Point27),
+    Refused(Refusal),
+}
+
+// A NAD 27 point's NAD 83 answer: 2, 5, 3, 4, then 6.
+pub fn to83<'a>(h: Header, lat: &'a [i64], lon: &'a [i64], p: Point27) -> Answer83
+    ensures { λ r. ⌜ outcome83 r ≡ to83 h (now (lat .entry)) (now (lon .entry)) p ⌝ }
+{
+    match grid::check(h, lat, lon) {
+        Checked::Refused(why) => Answer83::Refused(why),
+        Checked::Passes => forward(h, lat, lon, p),
+    }
+}
+
+// The NAD 27 point on the grid whose answer is the figure: 2, 5, 3, 4, then 7.
+pub fn to27<'a>(h: Header, lat: &'a [i64], lon: &'a [i64], f: Point83) -> Answer27
+    ensures computed { λ r. ⌜ outcome27 r ≡ to27 h (now (lat .entry)) (now (lon .entry)) f ⌝ }
+    ensures meaning { λ r. ⌜ Returned h (now (lat .entry)) (now (lon .entry)) f (outcome27 r) ⌝ }
+{
+    match grid::check(h, lat, lon) {
+        Checked::Refused(why) => Answer27::Refused(why),
+        Checked::Passes => inverse(h, lat, lon, f),
+    }
+}
+
+// `to83` for a grid that the caller has had checked. It looks at the header and at one cell, and refuses what it finds there.
+pub fn forward<'a>(h: Header, lat: &'a [i64], lon: &'a [i64], p: Point27) -> Answer83
+    ensures computed { λ r. ⌜ outcome83 r ≡ forward h (now (lat .entry)) (now (lon .entry)) p ⌝ }
+    ensures checked { λ r. ⌜ (Passes h (now (lat .entry)) (now (lon .entry)) → outcome83 r ≡ to83 h (now (lat .entry)) (now (lon .entry)) p) ⌝ }
+{
+    match grid::check_layout(h, lat, lon) {
+        Checked::Refused(why) => Answer83::Refused(why),
+        Checked::Passes => forward_on(h, lat, lon, p),
+    }
+}
+
+// `to27` for a grid that the caller has had checked.
+pub fn inverse<'a>(h: Header, lat: &'a [i64], lon: &'a [i64], f: Point83) -> Answer27
+    ensures computed { λ r. ⌜ outcome27 r ≡ inverse h (now (lat .entry)) (now (lon .entry)) f ⌝ }
+    ensures checked { λ r. ⌜ (Passes h (now (lat .entry)) (now (lon .entry)) → outcome27 r ≡ to27 h (now (lat .entry)) (now (lon .entry)) f) ⌝ }
+{
+    match grid::check_layout(h, lat, lon) {
+        Checked::Refused(why) => Answer27::Refused(why),
+        Checked::Passes => inverse_on(h, lat, lon, f),
+    }
+}
+
+fn forward_on<'a>(h: Header, lat: &'a [i64], lon: &'a [i64], p: Point27) -> Answer83
+    requires { ⌜ layout h (now lat) (now lon) ≡ answered tt ⌝ }
+    ensures { λ r. ⌜ outcome83 r ≡ forward h (now (lat .entry)) (now (lon .entry)) p ⌝ }
+{
+    match offsets::place_of(h, p) {
+        Place::Outside => Answer83::Refused(Refusal::OffGrid),
+        Place::At(x, y) => match shift::shift_at(h, lat, lon, x, y) {
+            Interpolated::Refused(why) => Answer83::Refused(why),
+            Interpolated::At(s) => Answer83::Point(answer_of(p, s)),
+        },
+    }
+}
+
+// 100 times the point plus the shift, for each coordinate.
+fn answer_of(p: Point27, s: Shift) -> Point83
+    requires { ⌜ (Within 1000000000 (p .lat .0)) × (Within 1000000000 (p .lon .0)) × (Within 6000000 (s .lat)) × (Within 6000000 (s .lon)) ⌝ }
+    ensures { λ r. ⌜ r ≡ answerOf p s ⌝ }
+{
+    let lat = p.lat;
+    let lon = p.lon;
+    Point83 {
+        lat: Nad83(offsets::hundredfold(lat.0, s.lat)),
+        lon: Nad83(offsets::hundredfold(lon.0, s.lon)),
+    }
+}
+
+fn inverse_on<'a>(h: Header, lat: &'a [i64], lon: &'a [i64], f: Point83) -> Answer27
+    requires { ⌜ layout h (now lat) (now lon) ≡ answered tt ⌝ }
+    ensures { λ r. ⌜ outcome27 r ≡ inverse h (now (lat .entry)) (now (lon .entry)) f ⌝ }
+{
+    match offsets::target_of(h, f) {
+        Place::Outside => Answer27::Refused(Refusal::NoPoint),
+        Place::At(x, y) => confirm(h, lat, lon, f, search::candidate(h, lat, lon, x, y)),
+    }
+}
+
+// The candidate is the point if its answer is the figure; otherwise no point is.
+fn confirm<'a>(h: Header, lat: &'a [i64], lon: &'a [i64], f: Point83, p: Point27) -> Answer27
+    ensures { λ r. ⌜ outcome27 r ≡ confirm h (now (lat .entry)) (now (lon .entry)) f p ⌝ }
+{
+    match forward(h, lat, lon, p) {
+        Answer83::Refused(why) => Answer27::Refused(why),
+        Answer83::Point(g) => settle(f, g, p),
+    }
+}
+
+fn settle(f: Point83, g: Point83, p: Point27) -> Answer27
+    ensures { λ r. ⌜ outcome27 r ≡ settle f p (answered g) ⌝ }
+{
+    if same_point(f, g) {
+        return Answer27::Point(p);
+    }
+    Answer27::Refused(Refusal::NoPoint)
+}
+
+fn same_point(f: Point83, g: Point83) -> bool
+    ensures { λ r. ⌜ r ≡ samePoint f g ⌝ }
+{
+    let flat = f.lat;
+    let glat = g.lat;
+    if flat.0 != glat.0 {
+        return false;
+    }
+    let flon = f.lon;
+    let glon = g.lon;
+    flon.0 == glon.0
+}
