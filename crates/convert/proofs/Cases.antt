@@ -17,7 +17,7 @@ use Rattle.shift.specs.Shift.{shiftOf, shiftAt, raise}
 use Rattle.shift.specs.declared.Shift.{Shift}
 use Rattle.shift.proofs.Cases.{shift-at-range}
 use Rattle.shift.proofs.OnGrid.{shift-answered, raise-by}
-use Rattle.convert.specs.Points.{onGrid, east, north, answerOf, samePoint, width, height, placeOf, targetOf}
+use Rattle.convert.specs.Points.{onGrid, east, north, answerOf, width, height, placeOf, targetOf}
 use Rattle.convert.specs.Convert.{answer, to83, forward, orZero, shiftOrZero, raisedLat, raisedLon, settle, confirm, seek, inverse, to27}
 use Rattle.convert.specs.declared.offsets.Place.{Place}
 use Rattle.convert.proofs.Places.{Local, local, place-at, place-outside}

@@ -6,34 +6,24 @@ use mathlib.Core.Logic.{_⊎_, inl, inr, ⊎-elim}
 use mathlib.Core.Bool.{Bool, true, false, cond}
 use mathlib.Core.List.{List}
 use lib.IntN.{ℤ}
-use Rattle.laws.specs.Logic.{both, not-both, eqZ, eqZ-holds, eqZ-true}
+use Rattle.laws.specs.Logic.{not-both}
 use Rattle.bilinear.specs.Answers.{one-to-one}
 use Rattle.figures.specs.Outcome.{Outcome, answered, refused, andThen}
+use Rattle.figures.specs.Same.{same83}
 use Rattle.figures.specs.declared.Point27.{Point27}
 use Rattle.figures.specs.declared.Point83.{Point83}
 use Rattle.figures.proofs.Laws.{both-answered, answer-not-refusal}
+use Rattle.figures.proofs.SameLaws.{equal83, same83-refl}
 use Rattle.grid.specs.Check.{layout, verdict, Passes}
 use Rattle.grid.specs.declared.Header.{Header}
 use Rattle.grid.proofs.Passing.{Good, good}
-use Rattle.convert.specs.Points.{onGrid, samePoint, targetOf}
+use Rattle.convert.specs.Points.{onGrid, targetOf}
 use Rattle.convert.specs.Convert.{answer, to83, forward, Returned, candidate, settle, confirm, seek, inverse, to27}
 use Rattle.convert.specs.declared.offsets.Place.{Place}
 use Rattle.convert.proofs.Places.{local, Target, target-at, target-inside}
 use Rattle.convert.proofs.Cases.{to83-on, to83-off, forward-passes, inverse-at, inverse-passes}
 use Rattle.convert.proofs.OnPassing.{lat-regular, lon-regular, answer-target, has-answer}
 use Rattle.convert.proofs.Candidate.{same-distances, candidate-on, candidate-only}
-
-same-point : {f g : Point83} → samePoint f g ≡ true → f ≡ g
-unfolding samePoint
-same-point {f} {g} e =
-    let s = both (eqZ (f .lat .0) (g .lat .0)) (eqZ (f .lon .0) (g .lon .0)) e in
-    let a = eqZ-holds (s .0) in
-    let b = eqZ-holds (s .1) in
-    λ i. record { lat = record { 0 = a i }; lon = record { 0 = b i } }
-
-point-same : (f : Point83) → samePoint f f ≡ true
-unfolding samePoint
-point-same f = rw (eqZ-true {a = f .lat .0} refl, eqZ-true {a = f .lon .0} refl)
 
 module _ (h : Header) (lat lon : List ℤ) where
   -- a point with an answer is on a grid that passes
@@ -82,17 +72,17 @@ module _ (h : Header) (lat lon : List ℤ) where
       confirmed =
           let c = candidate h lat lon X Y in
           let o = forward-passes h lat lon c e ∙ to83-on h lat lon c e (candidate-on (g .header) lat lon X Y) in
-          rw o (go (samePoint f (answer h lat lon c)) refl)
+          rw o (go (same83 f (answer h lat lon c)) refl)
         where
-          go : (b : Bool) → samePoint f (answer h lat lon (candidate h lat lon X Y)) ≡ b → Backed (cond b (answered (candidate h lat lon X Y)) (refused 7 0))
-          go true s = to83-on h lat lon _ e (candidate-on (g .header) lat lon X Y) ∙ ap answered (sym (same-point s))
+          go : (b : Bool) → same83 f (answer h lat lon (candidate h lat lon X Y)) ≡ b → Backed (cond b (answered (candidate h lat lon X Y)) (refused 7 0))
+          go true s = to83-on h lat lon _ e (candidate-on (g .header) lat lon X Y) ∙ ap answered (sym (equal83 s))
           go false s = (
             refl,
             refl,
             λ p u.
                 let d = only p u in
                 let a = answer-is p u in
-                let w : samePoint f (answer h lat lon (candidate h lat lon X Y)) ≡ true = rw (d, a .2) (point-same f) in
+                let w : same83 f (answer h lat lon (candidate h lat lon X Y)) ≡ true = rw (d, a .2) (same83-refl f) in
                 not-both w s,
           )
 

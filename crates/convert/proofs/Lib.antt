@@ -4,3 +4,4 @@ pub mod OnPassing
 pub mod Candidate
 pub mod Demands
 pub mod Order
+pub mod Table

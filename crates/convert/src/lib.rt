@@ -16,7 +16,7 @@ ghost use lib.IntN.{ℤ, pos, _+ℤ_, _*ℤ_};
 ghost use Rattle.laws.specs.Parts.{Within};
 ghost use Rattle.figures.specs.Outcome.{answered};
 ghost use Rattle.grid.specs.Check.{layout, Passes};
-ghost use Rattle.convert.specs.Points.{samePoint, answerOf};
+ghost use Rattle.convert.specs.Points.{answerOf};
 ghost use Rattle.convert.specs.Convert.{outcome83, outcome27, to83, to27, forward, Returned, confirm, settle, inverse};
 
 pub enum Answer83 {
@@ -121,21 +121,8 @@ fn confirm<'a>(h: Header, lat: &'a [i64], lon: &'a [i64], f: Point83, p: Point27
 fn settle(f: Point83, g: Point83, p: Point27) -> Answer27
     ensures { λ r. ⌜ outcome27 r ≡ settle f p (answered g) ⌝ }
 {
-    if same_point(f, g) {
+    if f.same(g) {
         return Answer27::Point(p);
     }
     Answer27::Refused(Refusal::NoPoint)
-}
-
-fn same_point(f: Point83, g: Point83) -> bool
-    ensures { λ r. ⌜ r ≡ samePoint f g ⌝ }
-{
-    let flat = f.lat;
-    let glat = g.lat;
-    if flat.0 != glat.0 {
-        return false;
-    }
-    let flon = f.lon;
-    let glon = g.lon;
-    flon.0 == glon.0
 }

@@ -15,3 +15,6 @@ both-answered (refused n k) p e = let z : _≡_ {A = ℕ} 0 1 = cc in absurd (om
 pub not-refused : {A : Type 0} (t : Bool) (n k : ℕ) (o : Outcome A) {a : A} → refuseIf t n k o ≡ answered a → (t ≡ false) × (o ≡ answered a)
 not-refused true n k o e = let z : _≡_ {A = ℕ} 0 1 = cc in absurd (omega arith)
 not-refused false n k o e = (refl, e)
+
+pub same-answer : {A : Type 0} {a b : A} → answered a ≡ answered b → a ≡ b
+same-answer e = cc

@@ -1,6 +1,7 @@
 // The figures of the two datums, points of each, and the refusals.
 ghost use mathlib.Core.Path.{_≡_};
 ghost use Rattle.figures.specs.Refusal.{numberOf, placeOf};
+ghost use Rattle.figures.specs.Same.{samePair, same27, same83};
 
 // A NAD 27 figure, in thousandths of an arc second.
 pub struct Nad27(pub i64);
@@ -17,6 +18,39 @@ pub struct Point27 {
 pub struct Point83 {
     pub lat: Nad83,
     pub lon: Nad83,
+}
+
+impl Point27 {
+    pub fn same(self, other: Point27) -> bool
+        ensures { λ r. ⌜ r ≡ same27 self other ⌝ }
+    {
+        let lat = self.lat;
+        let lon = self.lon;
+        let other_lat = other.lat;
+        let other_lon = other.lon;
+        same_pair(lat.0, lon.0, other_lat.0, other_lon.0)
+    }
+}
+
+impl Point83 {
+    pub fn same(self, other: Point83) -> bool
+        ensures { λ r. ⌜ r ≡ same83 self other ⌝ }
+    {
+        let lat = self.lat;
+        let lon = self.lon;
+        let other_lat = other.lat;
+        let other_lon = other.lon;
+        same_pair(lat.0, lon.0, other_lat.0, other_lon.0)
+    }
+}
+
+fn same_pair(a: i64, b: i64, c: i64, d: i64) -> bool
+    ensures { λ r. ⌜ r ≡ samePair a b c d ⌝ }
+{
+    if a != c {
+        return false;
+    }
+    b == d
 }
 
 // Why the answer is no: one variant for each row of document 01's table, with the place where that varies.

@@ -1,0 +1,28 @@
+use Rattle.round_trip.proofs.Laws.{there-refused, there-back}
+use Rattle.convert.specs.Convert.{outcome83}
+use mathlib.Core.Path.{_≡_, sym, ap, _∙_}
+use borrow.Author.Needs.{needs}
+use Rattle.round_trip.proofs.there_and_back.Statement.{statement}
+use Rattle.round_trip.proofs.there_and_back.Tie as tie
+
+to83-requires : tie.Need-to83-requires
+to83-requires c κs = search needs
+
+enum-known-why : tie.Need-enum-known-why
+enum-known-why c = search needs
+
+enum-known-f : tie.Need-enum-known-f
+enum-known-f c = search needs
+
+to27-requires : tie.Need-to27-requires
+to27-requires c κs = search needs
+
+returns : tie.Need-returns
+returns c = let a = c .before .before .before .before .args in there-refused (a .h) (a .lat .now) (a .lon .now) (a .p) (ap outcome83 (sym (c .before .why .given .1)) ∙ c .before .before .before .to83 .ensures)
+
+returns-2 : tie.Need-returns-2
+returns-2 c = let a = c .before .before .before .before .before .args in c .to27 .ensures .0 ∙ there-back (a .h) (a .lat .now) (a .lon .now) (a .p) (ap outcome83 (sym (c .before .before .f .given .1)) ∙ c .before .before .before .before .to83 .ensures)
+
+pub there-and-back-spec : {M : Type 1} → statement M
+there-and-back-spec =
+    tie.close (tie.spec to83-requires enum-known-why enum-known-f to27-requires returns returns-2)
