@@ -106,7 +106,7 @@ fn same_spot(a: Spot, b: Spot) -> bool
     a.y == b.y
 }
 
-// A grid that passes has a shift at every point; for another the rounds may go astray, and the trial of the candidate refuses.
+// A grid that passes has a shift at every point. For another the rounds may end at any point: the point's own conversion decides.
 fn shift_or_zero<'a>(h: Header, lat: &'a [i64], lon: &'a [i64], x: usize, y: usize) -> Shift
     ensures { λ r. ⌜ (r ≡ shiftOrZero h (now (lat .entry)) (now (lon .entry)) x y) × (Within 6000000 (r .lat)) × (Within 6000000 (r .lon)) ⌝ }
 {
