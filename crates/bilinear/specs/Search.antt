@@ -1,7 +1,7 @@
 -- The way back, by a contraction: each round brings the iterate about eight times nearer to the point whose answer it looks for, so six
 -- rounds find it if it is there; a conversion of the point that they come to tells whether it is.
-use Prim.Native.Nat.{ℕ, zero, suc, _+_, _*_, _-_, _/_, min, _≤_, _<_}
-use mathlib.Core.Path.{_≡_, refl, sym, ap, _∙_}
+use Prim.Native.Nat.{ℕ, zero, suc, _+_, _*_, _-_, _/_, min, _≤_}
+use mathlib.Core.Path.{_≡_, sym, ap, _∙_}
 use native.Mathlib.Omega.{arith}
 use native.Mathlib.Numerals.{add-one}
 use Rattle.bilinear.specs.Axis.{gap}

@@ -1,19 +1,17 @@
 -- The candidate of the search: on the grid, and the only point that can have the answer.
 use Prim.Native.Nat.{ℕ, _≤_}
-use native.Mathlib.Omega.{arith}
 use mathlib.Core.Path.{_≡_, refl, sym, ap, subst, _∙_}
 use mathlib.Core.Bool.{true}
 use mathlib.Core.List.{List}
 use lib.IntN.{ℤ, pos, _+ℤ_}
-use Rattle.bilinear.specs.Search.{iterate, on-grid, Reached, Located, located}
+use Rattle.bilinear.specs.Search.{on-grid, Reached, located}
 use Rattle.figures.specs.declared.Point27.{Point27}
-use Rattle.figures.specs.declared.Point83.{Point83}
 use Rattle.grid.specs.declared.Header.{Header}
 use Rattle.grid.proofs.RuleLaws.{RulesHold}
 use Rattle.grid.proofs.Passing.{Good}
 use Rattle.convert.specs.Points.{onGrid, east, north, pointAt, width, height}
 use Rattle.convert.specs.Convert.{answer, raisedLat, raisedLon, candidate}
-use Rattle.convert.proofs.Places.{Local, local, point-on, Target, spans-small}
+use Rattle.convert.proofs.Places.{Local, local, point-on, Target}
 use Rattle.convert.proofs.OnPassing.{lat-regular, lon-regular, has-answer}
 
 -- two points at the same distances are one

@@ -1,26 +1,25 @@
 -- Each answer of the code, from the tests that it has passed; and for a grid that passes, `forward` and `inverse` are `to83` and `to27`.
 use Prim.Native.Nat.{ℕ}
-use mathlib.Core.Path.{_≡_, refl, sym, ap, subst, _∙_}
-use mathlib.Core.Bool.{Bool, true, false, cond}
+use mathlib.Core.Path.{_≡_, refl, sym, _∙_}
+use mathlib.Core.Bool.{Bool, true, false}
 use mathlib.Core.List.{List}
 use native.Mathlib.Omega.{arith}
 use lib.IntN.{ℤ}
 use Rattle.laws.specs.Parts.{Within}
-use Rattle.figures.specs.Outcome.{Outcome, answered, refused, andThen, mapAnswer}
+use Rattle.figures.specs.Outcome.{Outcome, answered, refused, mapAnswer}
 use Rattle.figures.specs.declared.Point27.{Point27}
 use Rattle.figures.specs.declared.Point83.{Point83}
-use Rattle.grid.specs.Rules.{shape}
 use Rattle.grid.specs.Check.{layout, verdict, Passes}
 use Rattle.grid.specs.declared.Header.{Header}
 use Rattle.grid.proofs.Passing.{Good, good}
-use Rattle.shift.specs.Shift.{shiftOf, shiftAt, raise}
+use Rattle.shift.specs.Shift.{shiftAt}
 use Rattle.shift.specs.declared.Shift.{Shift}
 use Rattle.shift.proofs.Cases.{shift-at-range}
-use Rattle.shift.proofs.OnGrid.{shift-answered, raise-by}
-use Rattle.convert.specs.Points.{onGrid, east, north, answerOf, width, height, placeOf, targetOf}
-use Rattle.convert.specs.Convert.{answer, to83, forward, orZero, shiftOrZero, raisedLat, raisedLon, settle, confirm, seek, inverse, to27}
+use Rattle.shift.proofs.OnGrid.{shift-answered}
+use Rattle.convert.specs.Points.{onGrid, east, north, answerOf, width, height, targetOf}
+use Rattle.convert.specs.Convert.{answer, to83, forward, orZero, shiftOrZero, seek, inverse, to27}
 use Rattle.convert.specs.declared.offsets.Place.{Place}
-use Rattle.convert.proofs.Places.{Local, local, place-at, place-outside}
+use Rattle.convert.proofs.Places.{local}
 
 -- ---- to NAD 83
 

@@ -1,27 +1,26 @@
 -- Demand 3, and the meaning of the way back, as theorems about the definitions that the contracts name.
 use Prim.Native.Nat.{ℕ}
-use native.Mathlib.Omega.{arith}
 use mathlib.Core.Path.{_≡_, refl, sym, ap, subst, _∙_}
-use mathlib.Core.Logic.{_⊎_, inl, inr, ⊎-elim}
+use mathlib.Core.Logic.{inl, inr, ⊎-elim}
 use mathlib.Core.Bool.{Bool, true, false, cond}
 use mathlib.Core.List.{List}
 use lib.IntN.{ℤ}
 use Rattle.laws.specs.Logic.{not-both}
 use Rattle.bilinear.specs.Answers.{one-to-one}
-use Rattle.figures.specs.Outcome.{Outcome, answered, refused, andThen}
+use Rattle.figures.specs.Outcome.{Outcome, answered, refused}
 use Rattle.figures.specs.Same.{same83}
 use Rattle.figures.specs.declared.Point27.{Point27}
 use Rattle.figures.specs.declared.Point83.{Point83}
 use Rattle.figures.proofs.Laws.{both-answered, answer-not-refusal}
 use Rattle.figures.proofs.SameLaws.{equal83, same83-refl}
-use Rattle.grid.specs.Check.{layout, verdict, Passes}
+use Rattle.grid.specs.Check.{verdict, Passes}
 use Rattle.grid.specs.declared.Header.{Header}
 use Rattle.grid.proofs.Passing.{Good, good}
 use Rattle.convert.specs.Points.{onGrid, targetOf}
-use Rattle.convert.specs.Convert.{answer, to83, forward, Returned, candidate, settle, confirm, seek, inverse, to27}
+use Rattle.convert.specs.Convert.{answer, to83, Returned, candidate, confirm, seek, to27}
 use Rattle.convert.specs.declared.offsets.Place.{Place}
 use Rattle.convert.proofs.Places.{local, Target, target-at, target-inside}
-use Rattle.convert.proofs.Cases.{to83-on, to83-off, forward-passes, inverse-at, inverse-passes}
+use Rattle.convert.proofs.Cases.{to83-on, forward-passes, inverse-at, inverse-passes}
 use Rattle.convert.proofs.OnPassing.{lat-regular, lon-regular, answer-target, has-answer}
 use Rattle.convert.proofs.Candidate.{same-distances, candidate-on, candidate-only}
 

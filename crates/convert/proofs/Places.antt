@@ -5,12 +5,12 @@ use mathlib.Core.Path.{_≡_, refl, sym, ap, _∙_}
 use mathlib.Core.Bool.{Bool, true, false, _&&_, cond}
 use lib.IntN.{ℤ, pos, negsuc, _+ℤ_, _-ℤ_, _*ℤ_}
 use lib.Signed.{leZ, _≤ℤ_, _<ℤ_}
-use Rattle.laws.specs.Parts.{posPart, negPart, ints, Within, parts-disjoint}
-use Rattle.laws.specs.Expr.{linear, lit, _⊕_, _⊖_, _⊛_}
+use Rattle.laws.specs.Parts.{posPart, ints, Within, parts-disjoint}
+use Rattle.laws.specs.Expr.{linear, lit, _⊕_, _⊖_}
 use Rattle.laws.specs.Logic.{both, not-both, leZ-false}
 use Rattle.figures.specs.declared.Point27.{Point27}
 use Rattle.figures.specs.declared.Point83.{Point83}
-use Rattle.grid.specs.Rules.{minus, between, lastNode, northEdge, eastEdge, shape}
+use Rattle.grid.specs.Rules.{between, lastNode, northEdge, eastEdge, shape}
 use Rattle.grid.specs.declared.Header.{Header}
 use Rattle.grid.proofs.RuleLaws.{between-holds, between-true, below-low, RulesHold, extent}
 use Rattle.shift.proofs.Cells.{edges-small}
@@ -56,9 +56,6 @@ between-offset from {x} {length} l =
     let a : from ≤ℤ (from +ℤ pos x) = omega (arith, ints, linear (lit from ⊕ lit (pos x))) in
     let b : (from +ℤ pos x) ≤ℤ (from +ℤ pos length) = omega (arith, ints, linear (lit from ⊕ lit (pos x)), linear (lit from ⊕ lit (pos length))) in
     between-true a b
-
-pub offset-of-sum : (from : ℤ) (x : ℕ) → posPart (from +ℤ pos x -ℤ from) ≡ x
-offset-of-sum from x = omega (arith, ints, linear (lit from ⊕ lit (pos x) ⊖ lit from), parts-disjoint (from +ℤ pos x -ℤ from))
 
 -- ---- both axes
 

@@ -12,7 +12,6 @@ use offsets::Place;
 use shift::Interpolated;
 use shift::Shift;
 ghost use mathlib.Core.Path.{_≡_};
-ghost use lib.IntN.{ℤ, pos, _+ℤ_, _*ℤ_};
 ghost use Rattle.laws.specs.Parts.{Within};
 ghost use Rattle.figures.specs.Outcome.{answered};
 ghost use Rattle.grid.specs.Check.{layout, Passes};

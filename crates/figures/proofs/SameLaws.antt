@@ -1,6 +1,6 @@
 -- The test of two points tells whether they are equal.
 use mathlib.Core.Path.{_≡_, refl}
-use mathlib.Core.Bool.{Bool, true}
+use mathlib.Core.Bool.{true}
 use lib.IntN.{ℤ}
 use Rattle.laws.specs.Logic.{both, eqZ, eqZ-holds, eqZ-true}
 use Rattle.figures.specs.Same.{samePair, same27, same83}

@@ -1,7 +1,7 @@
 -- Laws of range and steepness, node by node.
 use Prim.Native.Nat.{ℕ, _+_, _*_, _/_, _%_, _≤_, _<_}
 use mathlib.Core.Path.{_≡_}
-use mathlib.Core.Bool.{Bool, true, false, _||_}
+use mathlib.Core.Bool.{false}
 use mathlib.Core.List.{List}
 use native.Mathlib.Omega.{arith}
 use native.Mathlib.Nat.{div-add-mod, mul-le-mul-left, div-lt-iff-lt-mul}
@@ -12,7 +12,7 @@ use Rattle.laws.specs.Parts.{posPart, Within, ints, parts-disjoint, abs-parts}
 use Rattle.laws.specs.Bounds.{own-size}
 use Rattle.laws.specs.Expr.{machine, linear, lit, ensured-within, ensured-reads, _⊖_}
 use Rattle.laws.specs.Logic.{neither, second-fails}
-use Rattle.grid.specs.Rules.{minus, between}
+use Rattle.grid.specs.Rules.{minus}
 use Rattle.grid.specs.Nodes.{node, beyondRange, tooSteep, steepEast, steepNorth, steepNode}
 use Rattle.grid.specs.Needs.{InRange}
 use Rattle.grid.specs.declared.Shape.{Shape}

@@ -1,7 +1,7 @@
 -- Laws of the checks: each answer of the code, and what a grid that passes has. Theorems use these, never the text of `verdict`.
 use Prim.Native.Nat.{ℕ, _*_, _≤_, _<_}
-use mathlib.Core.Path.{_≡_, refl, sym, ap, _∙_}
-use mathlib.Core.Bool.{Bool, true, false, not, _||_}
+use mathlib.Core.Path.{_≡_, refl}
+use mathlib.Core.Bool.{false, not, _||_}
 use mathlib.Core.List.{List}
 use lib.Dec.{ltb, eqb}
 use lib.ListN.{length}
@@ -9,7 +9,7 @@ use lib.IntN.{ℤ}
 use borrow.Author.Tests.{ltb-false, lt-ltb, le-ltb, not-false, ne-eqb, eqb-true}
 use Rattle.laws.specs.First.{first, first-none}
 use Rattle.laws.specs.Logic.{neither}
-use Rattle.figures.specs.Outcome.{Outcome, answered, refused, andThen, refuseIf}
+use Rattle.figures.specs.Outcome.{answered, refused}
 use Rattle.figures.proofs.Laws.{both-answered, not-refused}
 use Rattle.grid.specs.Rules.{brokenRule, shape}
 use Rattle.grid.specs.Nodes.{node, beyondRange, outOfRange, steepNode, steepAt}

@@ -1,7 +1,7 @@
 -- Laws of the header rules: what each test of the code tells, and what a header that breaks no rule has.
 use Prim.Native.Nat.{ℕ, suc, _*_, _≤_}
 use mathlib.Core.Path.{_≡_, refl, sym, subst, ap, _∙_}
-use mathlib.Core.Bool.{Bool, true, false, not, _&&_}
+use mathlib.Core.Bool.{Bool, true, false, not}
 use mathlib.Core.List.{List, [], _∷_}
 use native.Mathlib.Omega.{arith}
 use borrow.Author.Tests.{not-true, not-false}
@@ -14,7 +14,7 @@ use lib.Signed.{leZ, _≤ℤ_, _<ℤ_}
 use Rattle.laws.specs.Parts.{posPart, Within, ints, parts-disjoint}
 use Rattle.laws.specs.Bounds.{own-size, widen}
 use Rattle.laws.specs.Expr.{machine}
-use Rattle.laws.specs.Logic.{both, second-fails, leZ-true, leZ-false, leZ-holds}
+use Rattle.laws.specs.Logic.{both, leZ-true, leZ-false, leZ-holds}
 use Rattle.grid.specs.Rules.{minus, between, lastNode, firstFalse, brokenRule, northEdge, eastEdge, shape}
 use Rattle.grid.specs.Needs.{Extent}
 use Rattle.grid.specs.declared.Header.{Header}

@@ -1,5 +1,5 @@
 -- The checks of a grid as one ordered list (document 01, "When the answer is no"): 2, 5, 3, 4.
-use Prim.Native.Nat.{ℕ, _*_}
+use Prim.Native.Nat.{_*_}
 use mathlib.Core.Path.{_≡_}
 use mathlib.Core.Bool.{not, _||_}
 use mathlib.Core.List.{List}
@@ -7,7 +7,7 @@ use lib.Dec.{ltb, eqb}
 use lib.ListN.{length}
 use lib.IntN.{ℤ}
 use Rattle.laws.specs.First.{first}
-use Rattle.figures.specs.Outcome.{Outcome, answered, refused, refusal, andThen, refuseIf}
+use Rattle.figures.specs.Outcome.{Outcome, answered, refusal, andThen, refuseIf}
 use Rattle.grid.specs.Rules.{brokenRule, shape}
 use Rattle.grid.specs.Nodes.{outOfRange, steepAt}
 use Rattle.grid.specs.declared.Header.{Header}

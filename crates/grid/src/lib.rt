@@ -8,7 +8,7 @@ use figures::Nad27;
 use figures::Refusal;
 ghost use mathlib.Core.Path.{_≡_};
 ghost use Rattle.grid.specs.Check.{outcome, layout, verdict};
-ghost use Rattle.grid.specs.Nodes.{node, beyondRange, outOfRange};
+ghost use Rattle.grid.specs.Nodes.{node, outOfRange};
 
 // South and west edge, spacing of rows and columns in thousandths of an arc second, number of rows and columns.
 pub struct Header {

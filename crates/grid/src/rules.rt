@@ -2,7 +2,6 @@
 use super::Header;
 use super::Shape;
 ghost use mathlib.Core.Path.{_≡_};
-ghost use lib.IntN.{ℤ, pos};
 ghost use lib.Signed.{leZ};
 ghost use Rattle.laws.specs.Parts.{posPart, Within};
 ghost use Rattle.grid.specs.Rules.{between, lastNode, firstFalse, sizeRules, rules, brokenRule, shape};

@@ -3,13 +3,13 @@
 --     ints       the rules that carry an order or an equation of integers, or a bound on one, to their parts, in a hypothesis and in a goal
 -- So a linear goal over ℤ is `omega (arith, ints, lin e₁, .. , lin eₙ)`, with one `lin` (of `Exp`) for each compound expression in the goal or in a fact that is used.
 -- Assumes nothing.
-use mathlib.Core.Path.{_≡_, refl, sym, ap, subst, _∙_}
-use Prim.Native.Nat.{ℕ, zero, suc, pred, _+_, _*_, _-_, _≤_, _<_, _^_, min}
+use mathlib.Core.Path.{_≡_, refl, sym, ap, _∙_}
+use Prim.Native.Nat.{ℕ, zero, suc, _+_, _*_, _-_, _≤_, _<_, _^_, min}
 use native.Mathlib.Omega.{arith}
 use mathlib.Core.Bool.{Bool, true, false, not, cond}
-use lib.Dec.{T, ltb, leb, ltb→lt, nltb→le, leb→le, lt→ltb, le→leb, nleb→lt}
-use lib.IntN.{ℤ, pos, negsuc, negℤ, natAbs, subℕ, _+ℤ_, _-ℤ_, _*ℤ_}
-use lib.Signed.{mag, nonNeg, _≤ℤ_, _<ℤ_, leZ, ltZ}
+use lib.Dec.{T, ltb, ltb→lt, nltb→le, leb→le, lt→ltb, le→leb, nleb→lt}
+use lib.IntN.{ℤ, pos, negsuc, negℤ, natAbs, subℕ, _+ℤ_, _*ℤ_}
+use lib.Signed.{mag, _≤ℤ_, _<ℤ_, leZ, ltZ}
 use mir.Syntax.{Width}
 use mir.Val.{SFits, hbits}
 
@@ -185,12 +185,5 @@ sfits→ {w} {z} h = omega (arith, mag-parts z)
 
 pub sfits← : {w : Width} {z : ℤ} → (posPart z - negPart z) + (negPart z - posPart z - 1) < 2 ^ hbits w → SFits w z
 sfits← {w} {z} h = record { sfits = omega (arith, mag-diff z) }
-
-pub nonneg← : (z : ℤ) → negPart z ≤ posPart z → T (nonNeg z)
-nonneg← (pos n) h = tt
-nonneg← (negsuc n) h = none n h
-  where
-    none : (n : ℕ) → suc n ≤ 0 → ⊥
-    none n h = omega arith
 
 pub ruleset ints = (≤→, ≤←, <→, <←, ≡→, ≡←, within→, within←, sfits→, sfits←)

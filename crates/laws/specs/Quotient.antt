@@ -1,20 +1,19 @@
 -- Division of integers by a number above 0, toward zero: its parts, for `omega`, its place in an `Exp`, and rounding to the nearest.
 -- Assumes nothing.
-use mathlib.Core.Path.{_≡_, refl, sym, ap, subst, _∙_}
-use mathlib.Core.Bool.{Bool, true, false, _&&_}
-use Prim.Native.Nat.{ℕ, zero, suc, _+_, _*_, _-_, _/_, _%_, _≤_, _<_, _^_, zero-le}
-use native.Mathlib.Nat.{lt-of-le-of-lt as le-lt, div-le-self, le-trans, zero-div, zero-mod, mod-le, mod-lt, div-add-mod}
+use mathlib.Core.Path.{_≡_, refl, sym, subst, _∙_}
+use mathlib.Core.Bool.{_&&_}
+use Prim.Native.Nat.{ℕ, zero, suc, _/_, _%_, _≤_, _<_}
+use native.Mathlib.Nat.{lt-of-le-of-lt as le-lt, div-le-self, zero-div, zero-mod, mod-le}
 use native.Mathlib.Omega.{arith}
 use lib.Dec.{T, ltb→lt}
-use lib.IntN.{ℤ, pos, negsuc, negℤ, natAbs, +ℤ-idr, _+ℤ_, _-ℤ_, _*ℤ_}
-use borrow.Author.Tests.{le-ltb}
-use lib.Signed.{ltZ, mag, mag-rem, quotZ, remZ, _≤ℤ_, _<ℤ_}
+use lib.IntN.{ℤ, pos, negsuc, negℤ, natAbs}
+use lib.Signed.{mag, mag-rem, quotZ, remZ, _<ℤ_}
 use mir.Syntax.{w64}
-use mir.Val.{SFits, Fits, toZ, ofZ}
+use mir.Val.{SFits, ofZ}
 use mir.Facts.{and-yes}
-use Rattle.laws.specs.Parts.{parts-disjoint, posPart, negPart, posPart-neg, negPart-neg, diff-at, Within, ints}
+use Rattle.laws.specs.Parts.{posPart, negPart, posPart-neg, negPart-neg, diff-at, Within}
 use Rattle.laws.specs.Bounds.{abs-neg}
-use Rattle.laws.specs.Expr.{Expr, machine, lit, linear, _⊕_, _⊛_, again, reads₂, all-needs₂}
+use Rattle.laws.specs.Expr.{Expr, machine, linear, again, reads₂, all-needs₂}
 
 -- ---- the parts
 
@@ -33,11 +32,6 @@ rem-posPart (negsuc a) d = posPart-neg (pos (suc a % d)) ∙ sym (zero-mod d)
 pub rem-negPart : (x : ℤ) (d : ℕ) → negPart (remZ x (pos d)) ≡ negPart x % d
 rem-negPart (pos a) d = sym (zero-mod d)
 rem-negPart (negsuc a) d = negPart-neg (pos (suc a % d))
-
--- quotient and remainder make up the dividend
-pub quot-rem : (x : ℤ) (d : ℕ) → x ≡ pos d *ℤ quotZ x (pos d) +ℤ remZ x (pos d)
-quot-rem x d =
-    omega (arith, ints, linear (lit (pos d) ⊛ lit (quotZ x (pos d)) ⊕ lit (remZ x (pos d))), div-add-mod (posPart x) d, div-add-mod (negPart x) d, quot-posPart x d, quot-negPart x d, rem-posPart x d, rem-negPart x d, ap (λ (k : ℕ). d * k) (quot-posPart x d), ap (λ (k : ℕ). d * k) (quot-negPart x d))
 
 -- ---- sizes
 

@@ -1,11 +1,11 @@
 -- Each answer of the code, by demand 3.
 use Prim.Native.Nat.{ℕ}
 use mathlib.Core.Path.{_≡_, refl, sym, ap, subst, _∙_}
-use mathlib.Core.Bool.{Bool, true, false, _&&_}
+use mathlib.Core.Bool.{Bool, true, false}
 use mathlib.Core.List.{List}
 use lib.IntN.{ℤ}
 use Rattle.laws.specs.Logic.{not-both}
-use Rattle.figures.specs.Outcome.{Outcome, answered, refused, andThen}
+use Rattle.figures.specs.Outcome.{answered, refused}
 use Rattle.figures.specs.Same.{same27, same83}
 use Rattle.figures.specs.declared.Point27.{Point27}
 use Rattle.figures.specs.declared.Point83.{Point83}
@@ -14,7 +14,7 @@ use Rattle.figures.proofs.SameLaws.{equal27, same27-refl, equal83, same83-refl}
 use Rattle.grid.specs.declared.Header.{Header}
 use Rattle.convert.specs.Convert.{to83, to27, Returned}
 use Rattle.convert.proofs.Demands.{one-point, comes-back, returned}
-use Rattle.round_trip.specs.RoundTrip.{comesBack, goesAgain, isAnswer, oneAnswer}
+use Rattle.round_trip.specs.RoundTrip.{comesBack, goesAgain, oneAnswer}
 
 module _ (h : Header) (lat lon : List ℤ) where
   pub there-refused : (p : Point27) {n k : ℕ} → refused n k ≡ to83 h lat lon p → refused n k ≡ comesBack h lat lon p

@@ -1,14 +1,14 @@
 -- Each answer of the code, from the tests that it has passed.
 use Prim.Native.Nat.{ℕ, _+_, _*_, _-_, _≤_, _<_}
 use mathlib.Core.Path.{_≡_, subst}
-use mathlib.Core.Bool.{Bool, true, false, _||_}
+use mathlib.Core.Bool.{true, false, _||_}
 use mathlib.Core.List.{List}
 use lib.Dec.{ltb}
 use borrow.Author.Tests.{lt-ltb, le-ltb, ltb-false}
 use lib.IntN.{ℤ}
 use Rattle.laws.specs.Parts.{Within}
 use Rattle.laws.specs.Logic.{neither}
-use Rattle.figures.specs.Outcome.{Outcome, answered, refused, andThen, refuseIf}
+use Rattle.figures.specs.Outcome.{answered, refused}
 use Rattle.figures.proofs.Laws.{both-answered, not-refused}
 use Rattle.grid.specs.Rules.{shape}
 use Rattle.grid.specs.Nodes.{node, beyondRange, outOfRange}

@@ -3,10 +3,10 @@ use Prim.Native.Nat.{ℕ, suc, _+_, _*_, _-_, _≤_, _<_}
 use native.Mathlib.Nat.{mul-le-mul, mul-le-mul-right}
 use native.Mathlib.Omega.{arith}
 use mathlib.Core.Path.{_≡_}
-use Rattle.bilinear.specs.Axis.{InCell, cellOf, cell-found}
+use Rattle.bilinear.specs.Axis.{InCell, cell-found}
 use Rattle.grid.specs.Needs.{Extent}
 use Rattle.grid.specs.declared.Shape.{Shape}
-use Rattle.shift.specs.Shift.{cellAt, southwest, northwest}
+use Rattle.shift.specs.Shift.{cellAt, northwest}
 use Rattle.shift.specs.Needs.{CellIn, Weighted}
 use Rattle.shift.specs.declared.Cell.{Cell}
 

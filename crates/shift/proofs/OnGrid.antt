@@ -1,20 +1,18 @@
 -- The shift on a grid that passes the checks. Raised by 6,000,000 it is a natural number, the nearest to the bilinear surface through
 -- the raised nodes; so the theorems of `bilinear` hold of it.
-use Prim.Native.Nat.{ℕ, zero, suc, _+_, _*_, _-_, _%_, _≤_, _<_}
+use Prim.Native.Nat.{ℕ, suc, _+_, _*_, _-_, _%_, _≤_, _<_}
 use native.Mathlib.Nat.{mul-add-mod-self-right, mod-eq-of-lt, mul-pos, mul-le-mul-left, mul-le-mul-right}
 use native.Mathlib.Omega.{arith}
-use mathlib.Core.Path.{_≡_, refl, sym, ap, subst, _∙_}
-use mathlib.Core.Bool.{Bool, true, false}
+use mathlib.Core.Path.{_≡_, sym, ap, _∙_}
 use mathlib.Core.List.{List}
 use lib.IntN.{ℤ, pos, natAbs, _+ℤ_, _-ℤ_, _*ℤ_}
-use lib.Signed.{_≤ℤ_}
 use Rattle.laws.specs.Parts.{posPart, negPart, ints, Within, parts-disjoint, abs-parts}
 use Rattle.laws.specs.Expr.{linear, lit, _⊕_, _⊖_, _⊛_}
 use Rattle.bilinear.specs.Axis.{Near, near16, on-axis, Among}
 use Rattle.bilinear.specs.Surface.{surface, SlopeBound, surface-is, Nearest}
 use Rattle.bilinear.specs.Answers.{lipschitz, shift-between, shift-node}
 use Rattle.bilinear.specs.Search.{Regular}
-use Rattle.figures.specs.Outcome.{Outcome, answered}
+use Rattle.figures.specs.Outcome.{answered}
 use Rattle.grid.specs.Rules.{shape}
 use Rattle.grid.specs.Nodes.{node}
 use Rattle.grid.specs.Needs.{Extent}
@@ -24,7 +22,7 @@ use Rattle.grid.proofs.RuleLaws.{Between, extent}
 use Rattle.grid.proofs.NodeLaws.{Sound}
 use Rattle.grid.proofs.Passing.{Good}
 use Rattle.shift.specs.Round.{nearest}
-use Rattle.shift.specs.Shift.{numerator, fourCorner, cornersAt, southwest, northwest, componentIn, cellAt, component, shiftOf, shiftOn, shiftAt, raise}
+use Rattle.shift.specs.Shift.{numerator, fourCorner, cornersAt, southwest, northwest, componentIn, cellAt, component, shiftOf, shiftAt, raise}
 use Rattle.shift.specs.Needs.{CellIn, CornersIn}
 use Rattle.shift.specs.declared.Cell.{Cell}
 use Rattle.shift.specs.declared.Corners.{Corners}

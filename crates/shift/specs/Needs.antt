@@ -1,5 +1,5 @@
 -- What the private functions ask of their arguments.
-use Prim.Native.Nat.{ℕ, suc, _+_, _≤_, _<_}
+use Prim.Native.Nat.{suc, _+_, _≤_, _<_}
 use mathlib.Core.Path.{_≡_}
 use Rattle.laws.specs.Parts.{Within}
 use Rattle.grid.specs.declared.Shape.{Shape}

@@ -6,7 +6,6 @@ ghost use Prim.Native.Nat.{_*_, _-_, _≤_, _<_};
 ghost use Rattle.bilinear.specs.Axis.{cellOf};
 ghost use Rattle.grid.specs.Needs.{Extent};
 ghost use Rattle.shift.specs.Shift.{cellAt};
-ghost use Rattle.shift.specs.Needs.{CellIn};
 
 pub(crate) fn cell_at(shape: Shape, x: usize, y: usize) -> Cell
     requires { ⌜ (Extent shape) × (x ≤ (shape .cols - 1) * shape .dlon) × (y ≤ (shape .rows - 1) * shape .dlat) ⌝ }

@@ -1,5 +1,5 @@
 use Rattle.convert.specs.Convert.{outcome83, settle, confirm}
-use mathlib.Core.Path.{_≡_, sym, ap, _∙_}
+use mathlib.Core.Path.{sym, ap, _∙_}
 use borrow.Author.Needs.{needs}
 use Rattle.convert.proofs.confirm.Statement.{statement}
 use Rattle.convert.proofs.confirm.Tie as tie

@@ -2,7 +2,7 @@ use Rattle.convert.proofs.Cases.{inverse-at}
 use Rattle.convert.proofs.Places.{spans-small, target-at}
 use Rattle.convert.specs.Convert.{confirm, seek}
 use Rattle.grid.proofs.Passing.{laid}
-use mathlib.Core.Path.{_≡_, sym, ap, _∙_}
+use mathlib.Core.Path.{sym, ap, _∙_}
 use native.Mathlib.Omega.{arith}
 use borrow.Author.Needs.{needs}
 use Rattle.convert.proofs.inverse_on.Statement.{statement}

@@ -1,5 +1,5 @@
 use borrow.Author.Tests.{eq-eqb, ne-eqb}
-use mathlib.Core.Path.{_≡_, sym, _∙_}
+use mathlib.Core.Path.{sym, _∙_}
 use Rattle.laws.specs.Tests.{eq-bits}
 use Rattle.figures.specs.Same.{samePair}
 use Rattle.figures.proofs.same_pair.Statement.{statement}

@@ -1,9 +1,8 @@
 use borrow.Author.Needs.{needs}
 use native.Mathlib.Omega.{arith}
 use mathlib.Core.Path.{_≡_, sym, ap, _∙_}
-use Prim.Native.Nat.{_*_, _≤_}
-use lib.ListN.{length}
-use Rattle.figures.specs.Outcome.{Outcome, refused}
+use Prim.Native.Nat.{_*_}
+use Rattle.figures.specs.Outcome.{refused}
 use Rattle.grid.specs.Rules.{brokenRule, shape}
 use Rattle.grid.specs.Needs.{Extent}
 use Rattle.grid.specs.declared.Shape.{Shape}

@@ -1,6 +1,6 @@
 use borrow.Author.Needs.{needs}
 use mathlib.Core.Path.{_≡_, sym, ap, _∙_}
-use mathlib.Core.Bool.{Bool, true, false, _||_}
+use mathlib.Core.Bool.{true, false}
 use Rattle.laws.specs.Tests.{element}
 use Rattle.grid.specs.Nodes.{node, beyondRange, outOfRange}
 use Rattle.grid.proofs.out_of_range.Statement.{statement}

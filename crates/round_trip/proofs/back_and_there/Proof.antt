@@ -1,6 +1,6 @@
 use Rattle.round_trip.proofs.Laws.{back-refused, back-there}
 use Rattle.convert.specs.Convert.{outcome27}
-use mathlib.Core.Path.{_≡_, sym, ap, _∙_}
+use mathlib.Core.Path.{sym, ap, _∙_}
 use borrow.Author.Needs.{needs}
 use Rattle.round_trip.proofs.back_and_there.Statement.{statement}
 use Rattle.round_trip.proofs.back_and_there.Tie as tie

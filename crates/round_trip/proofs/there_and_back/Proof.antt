@@ -1,6 +1,6 @@
 use Rattle.round_trip.proofs.Laws.{there-refused, there-back}
 use Rattle.convert.specs.Convert.{outcome83}
-use mathlib.Core.Path.{_≡_, sym, ap, _∙_}
+use mathlib.Core.Path.{sym, ap, _∙_}
 use borrow.Author.Needs.{needs}
 use Rattle.round_trip.proofs.there_and_back.Statement.{statement}
 use Rattle.round_trip.proofs.there_and_back.Tie as tie

@@ -1,6 +1,6 @@
 use native.Mathlib.Omega.{arith}
 use Prim.Native.Nat.{_+_, _<_}
-use mathlib.Core.Path.{_≡_, sym, _∙_}
+use mathlib.Core.Path.{sym, _∙_}
 use Rattle.laws.specs.Tests.{element}
 use Rattle.figures.specs.Outcome.{answered}
 use Rattle.shift.specs.Shift.{northwest, componentIn}

@@ -6,7 +6,7 @@ use Rattle.grid.proofs.RuleLaws.{rules-hold}
 use Rattle.grid.specs.declared.Shape.{Shape}
 use Rattle.bilinear.specs.Search.{Reached}
 use Prim.Native.Nat.{_*_, _-_, _≤_}
-use mathlib.Core.Path.{_≡_, ap, _∙_}
+use mathlib.Core.Path.{ap, _∙_}
 use native.Mathlib.Omega.{arith}
 use borrow.Author.Needs.{needs}
 use Rattle.convert.proofs.search.candidate.Statement.{statement}

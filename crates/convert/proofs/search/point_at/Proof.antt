@@ -3,7 +3,7 @@ use Rattle.convert.proofs.Places.{corner-within}
 use Rattle.grid.proofs.RuleLaws.{rules-hold}
 use Rattle.laws.specs.Expr.{reads, reads-within, bounded}
 use lib.IntN.{pos, _+ℤ_}
-use mathlib.Core.Path.{_≡_, ap, _∙_}
+use mathlib.Core.Path.{ap, _∙_}
 use Rattle.convert.proofs.search.point_at.Statement.{statement}
 use Rattle.convert.proofs.search.point_at.Tie as tie
 

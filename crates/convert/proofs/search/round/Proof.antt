@@ -3,7 +3,7 @@ use Rattle.shift.specs.declared.Shift.{Shift}
 use Rattle.shift.specs.Shift.{raise}
 use Rattle.bilinear.specs.Search.{unshift}
 use Rattle.laws.specs.Expr.{reads, bounded}
-use mathlib.Core.Path.{_≡_, ap, _∙_}
+use mathlib.Core.Path.{ap, _∙_}
 use borrow.Author.Needs.{needs}
 use Rattle.convert.proofs.search.round.Statement.{statement}
 use Rattle.convert.proofs.search.round.Tie as tie

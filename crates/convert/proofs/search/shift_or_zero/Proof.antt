@@ -3,7 +3,7 @@ use Rattle.convert.specs.Convert.{orZero, shiftOrZero}
 use Rattle.shift.specs.declared.Shift.{Shift}
 use Rattle.shift.specs.Shift.{outcome}
 use Rattle.laws.specs.Parts.{Within}
-use mathlib.Core.Path.{_≡_, sym, ap, subst, _∙_}
+use mathlib.Core.Path.{sym, ap, subst, _∙_}
 use native.Mathlib.Omega.{arith}
 use borrow.Author.Needs.{needs}
 use Rattle.convert.proofs.search.shift_or_zero.Statement.{statement}

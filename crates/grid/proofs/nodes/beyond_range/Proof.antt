@@ -1,7 +1,7 @@
 use borrow.Author.Needs.{needs}
 use mathlib.Core.Path.{ap, _∙_}
 use mathlib.Core.Bool.{not}
-use lib.IntN.{pos, negsuc}
+use lib.IntN.{pos}
 use mir.Facts.{toZ-ofZ}
 use Rattle.grid.specs.Rules.{between, minus}
 use Rattle.grid.specs.Nodes.{beyondRange}

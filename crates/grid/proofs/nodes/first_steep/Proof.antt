@@ -4,8 +4,8 @@ use borrow.Author.Needs.{needs}
 use native.Mathlib.Omega.{arith}
 use Prim.Native.Nat.{ℕ, _*_, _-_, _≤_, _<_}
 use mathlib.Core.Path.{_≡_, refl, sym, _∙_}
-use mathlib.Core.Bool.{Bool, true, false}
-use Rattle.laws.specs.First.{first, first-is}
+use mathlib.Core.Bool.{false}
+use Rattle.laws.specs.First.{first-is}
 use Rattle.grid.specs.Nodes.{steepAt}
 use Rattle.grid.proofs.nodes.first_steep.Statement.{statement}
 use Rattle.grid.proofs.nodes.first_steep.Tie as tie

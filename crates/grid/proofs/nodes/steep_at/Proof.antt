@@ -1,5 +1,5 @@
 use borrow.Author.Needs.{needs}
-use mathlib.Core.Path.{_≡_, sym, _∙_}
+use mathlib.Core.Path.{sym, _∙_}
 use Rattle.grid.specs.Nodes.{steepAt}
 use Rattle.grid.proofs.nodes.steep_at.Statement.{statement}
 use Rattle.grid.proofs.nodes.steep_at.Tie as tie

@@ -1,6 +1,6 @@
 use borrow.Author.Needs.{needs}
 use borrow.Author.Tests.{lt-ltb, le-ltb}
-use mathlib.Core.Path.{_≡_, _∙_}
+use mathlib.Core.Path.{_∙_}
 use Rattle.grid.specs.Nodes.{steepNorth, tooSteep}
 use Rattle.grid.proofs.NodeLaws.{node-within, node-reads}
 use Rattle.grid.proofs.nodes.steep_north.Statement.{statement}

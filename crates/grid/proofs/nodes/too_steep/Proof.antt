@@ -1,10 +1,10 @@
 use borrow.Author.Needs.{needs}
 use native.Mathlib.Omega.{arith}
-use Prim.Native.Nat.{ℕ, _*_, _≤_}
+use Prim.Native.Nat.{_*_}
 use mathlib.Core.Path.{_≡_, ap, _∙_}
 use lib.Dec.{ltb}
 use lib.IntN.{natAbs, _-ℤ_}
-use Rattle.laws.specs.Parts.{posPart, Within, within→}
+use Rattle.laws.specs.Parts.{posPart}
 use Rattle.laws.specs.Expr.{need, reads, bounded, _⊖_}
 use Rattle.laws.specs.Tests.{lt-yes, lt-no}
 use Rattle.grid.specs.Nodes.{tooSteep}

@@ -3,7 +3,7 @@ use Rattle.grid.proofs.RuleLaws.{below-low, from-low}
 use Rattle.laws.specs.Expr.{fitting, reads₂}
 use Rattle.laws.specs.Tests.{lt-yes, lt-no}
 use lib.Signed.{leZ}
-use mathlib.Core.Path.{_∙_, sym}
+use mathlib.Core.Path.{_∙_}
 use Rattle.grid.proofs.rules.between.Statement.{statement}
 use Rattle.grid.proofs.rules.between.Tie as tie
 use Rattle.grid.proofs.rules.between.Reads as reads

@@ -1,5 +1,5 @@
-use mathlib.Core.Path.{_≡_, _∙_}
-use lib.IntN.{pos, negsuc}
+use mathlib.Core.Path.{_∙_}
+use lib.IntN.{pos}
 use mir.Facts.{toZ-ofZ}
 use Rattle.grid.specs.Rules.{sizeRules, rules, firstFalse, minus}
 use Rattle.grid.proofs.RuleLaws.{First, pass, bounded-by, tests}

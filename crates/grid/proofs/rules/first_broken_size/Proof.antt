@@ -1,5 +1,5 @@
 use mathlib.Core.Path.{_≡_, _∙_}
-use lib.IntN.{pos, _*ℤ_}
+use lib.IntN.{_*ℤ_}
 use Rattle.laws.specs.Expr.{Expr, need, reads, reads-within, bounded, machine, _⊛_}
 use Rattle.laws.specs.Bounds.{widen}
 use Rattle.grid.specs.Rules.{lastNode}

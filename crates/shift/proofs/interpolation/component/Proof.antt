@@ -1,7 +1,7 @@
 use native.Mathlib.Omega.{arith}
 use native.Mathlib.Nat.{mul-pos, mul-le-mul}
 use Prim.Native.Nat.{_+_, _*_, _≤_}
-use mathlib.Core.Path.{_≡_, ap, _∙_}
+use mathlib.Core.Path.{ap, _∙_}
 use Rattle.laws.specs.Expr.{reads, reads-within, bounded, ensured-within, ensured-reads}
 use Rattle.laws.specs.Tests.{element}
 use Rattle.shift.specs.Round.{nearest}

@@ -1,10 +1,8 @@
-use native.Mathlib.Omega.{arith}
 use mathlib.Core.Path.{_∙_}
-use Prim.Native.Nat.{_<_}
 use lib.Dec.{lt→ltb, le→leb}
-use lib.IntN.{pos, _+ℤ_, _-ℤ_, _*ℤ_}
+use lib.IntN.{pos, _*ℤ_}
 use lib.Signed.{_<ℤ_, quotZ, remZ}
-use Rattle.laws.specs.Expr.{Expr, need, all-needs, reads, reads-keep, bounded, lit, nat, cap, _⊕_, _⊖_, _⊛_}
+use Rattle.laws.specs.Expr.{Expr, need, reads, bounded, lit, nat, cap, _⊕_, _⊖_, _⊛_}
 use Rattle.laws.specs.Bounds.{widen}
 use Rattle.laws.specs.Tests.{le-yes, le-no}
 use Rattle.laws.specs.Quotient.{quo, rem, need-div}
