@@ -6,8 +6,6 @@ use lib.Signed.{leZ}
 use mathlib.Core.Path.{_∙_}
 use Rattle.grid.proofs.rules.between.Statement.{statement}
 use Rattle.grid.proofs.rules.between.Tie as tie
-use Rattle.grid.proofs.rules.between.Reads as reads
-use Rattle.grid.proofs.rules.between.Lts as lts
 
 returns : tie.Need-returns
 returns c = let f = c .before .fits in below-low (c .before .args .hi) (lt-yes (fitting (f .x)) (fitting (f .lo)) tt (c .if1 .taken))

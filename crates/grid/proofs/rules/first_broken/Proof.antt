@@ -6,10 +6,6 @@ use Rattle.grid.proofs.RuleLaws.{First, pass, bounded-by, tests}
 use borrow.Author.Needs.{needs}
 use Rattle.grid.proofs.rules.first_broken.Statement.{statement}
 use Rattle.grid.proofs.rules.first_broken.Tie as tie
-use Rattle.grid.proofs.rules.first_broken.Reads as reads
-use Rattle.grid.proofs.rules.first_broken.Lts as lts
-use Rattle.grid.proofs.rules.first_broken_size.Reads as broken-extent-reads
-use Rattle.grid.proofs.rules.between.Reads as lies-reads
 
 sub-between : tie.Need-sub-between
 sub-between c = search needs

@@ -5,8 +5,6 @@ use Rattle.laws.specs.Bounds.{widen}
 use Rattle.laws.specs.Parts.{Within}
 use Rattle.grid.proofs.rules.last_node.Statement.{statement}
 use Rattle.grid.proofs.rules.last_node.Tie as tie
-use Rattle.grid.proofs.rules.last_node.Reads as reads
-use Rattle.grid.proofs.rules.last_node.Lts as lts
 
 module _ (c : tie.Start) where
   abbrev far : Expr (c .args .from +ℤ (c .args .n -ℤ pos 1) *ℤ c .args .step)

@@ -10,8 +10,6 @@ use Rattle.shift.proofs.Rounding.{rem-small, rounded-up, rounded-down, 
 use borrow.Author.Needs.{needs}
 use Rattle.shift.proofs.interpolation.rounded.Statement.{statement}
 use Rattle.shift.proofs.interpolation.rounded.Tie as tie
-use Rattle.shift.proofs.interpolation.rounded.Reads as reads
-use Rattle.shift.proofs.interpolation.rounded.Lts as lts
 
 module _ (c : tie.Start) where
   some : pos 0 <ℤ pos (c .args .d)
