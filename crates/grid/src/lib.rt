@@ -8,7 +8,7 @@ use figures::Nad27;
 use figures::Refusal;
 ghost use mathlib.Core.Path.{_≡_};
 ghost use Rattle.grid.specs.Check.{outcome, layout, verdict};
-ghost use Rattle.grid.specs.Nodes.{node, outOfRange};
+ghost use Rattle.grid.specs.Nodes.{beyondRange};
 
 // South and west edge, spacing of rows and columns in thousandths of an arc second, number of rows and columns.
 pub struct Header {
@@ -27,6 +27,9 @@ pub struct Shape {
     pub dlat: usize,
     pub dlon: usize,
 }
+
+// The largest size of a shift, 60 arc seconds.
+pub const MAX_SHIFT: i64 = 6_000_000;
 
 pub enum Checked {
     Passes,
@@ -62,22 +65,9 @@ pub fn check_layout<'a>(h: Header, lat: &'a [i64], lon: &'a [i64]) -> Checked
     Checked::Passes
 }
 
-// The shift of node `k`, and 0 past the end of the slice.
-pub fn node_shift(s: &[i64], k: usize) -> i64
-    ensures { λ r. ⌜ r ≡ node (now (s .entry)) k ⌝ }
+// Whether a shift is beyond its range.
+pub fn beyond_range(shift: i64) -> bool
+    ensures { λ r. ⌜ r ≡ beyondRange shift ⌝ }
 {
-    if k < s.len() {
-        return s[k];
-    }
-    0
-}
-
-// Whether node `k` has a shift beyond its range.
-pub fn out_of_range<'a>(lat: &'a [i64], lon: &'a [i64], k: usize) -> bool
-    ensures { λ r. ⌜ r ≡ outOfRange (now (lat .entry)) (now (lon .entry)) k ⌝ }
-{
-    if nodes::beyond_range(node_shift(lat, k)) {
-        return true;
-    }
-    nodes::beyond_range(node_shift(lon, k))
+    !rules::between(-MAX_SHIFT, shift, MAX_SHIFT)
 }

@@ -1,21 +1,16 @@
 // The checks of the nodes: range, then steepness.
 use super::Checked;
 use super::Shape;
-use super::node_shift;
-use super::out_of_range;
-use super::rules::between;
+use super::beyond_range;
 use super::rules::natural;
 use figures::Refusal;
 ghost use mathlib.Core.Path.{_≡_};
 ghost use Prim.Native.Nat.{_*_, _<_, _≤_};
 ghost use Rattle.laws.specs.Parts.{Within};
 ghost use Rattle.laws.specs.First.{first};
-ghost use Rattle.grid.specs.Nodes.{beyondRange, outOfRange, tooSteep, steepEast, steepNorth, steepNode, steepAt};
+ghost use Rattle.grid.specs.Nodes.{node, outOfRange, tooSteep, steepEast, steepNorth, steepNode, steepAt};
 ghost use Rattle.grid.specs.Check.{outcome, nodesVerdict};
 ghost use Rattle.grid.specs.Needs.{Extent, InRange};
-
-// The largest size of a shift, 60 arc seconds.
-const MAX_SHIFT: i64 = 6_000_000;
 
 pub(crate) fn check_nodes<'a>(shape: Shape, lat: &'a [i64], lon: &'a [i64]) -> Checked
     requires { ⌜ Extent shape ⌝ }
@@ -118,8 +113,22 @@ fn too_steep(spacing: usize, a: i64, b: i64) -> bool
     100 * spacing < 16 * natural(a - b)
 }
 
-pub(crate) fn beyond_range(x: i64) -> bool
-    ensures { λ r. ⌜ r ≡ beyondRange x ⌝ }
+// Whether node `k` has a shift beyond its range.
+fn out_of_range<'a>(lat: &'a [i64], lon: &'a [i64], k: usize) -> bool
+    ensures { λ r. ⌜ r ≡ outOfRange (now (lat .entry)) (now (lon .entry)) k ⌝ }
 {
-    !between(-MAX_SHIFT, x, MAX_SHIFT)
+    if beyond_range(node_shift(lat, k)) {
+        return true;
+    }
+    beyond_range(node_shift(lon, k))
+}
+
+// The shift of node `k`. Past the end of the slice it is 0, which no caller asks for: the room was checked before.
+fn node_shift(s: &[i64], k: usize) -> i64
+    ensures { λ r. ⌜ r ≡ node (now (s .entry)) k ⌝ }
+{
+    if k < s.len() {
+        return s[k];
+    }
+    0
 }

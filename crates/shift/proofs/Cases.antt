@@ -1,12 +1,16 @@
 -- Each answer of the code, from the tests that it has passed.
 use Prim.Native.Nat.{ℕ, _+_, _*_, _-_, _≤_, _<_}
-use mathlib.Core.Path.{_≡_, subst}
-use mathlib.Core.Bool.{true, false, _||_}
+use mathlib.Core.Path.{_≡_, subst, _∙_}
+use mathlib.Core.Bool.{Bool, true, false, _||_}
 use mathlib.Core.List.{List}
 use lib.Dec.{ltb}
 use borrow.Author.Tests.{lt-ltb, le-ltb, ltb-false}
 use lib.IntN.{ℤ}
+use mir.Syntax.{w64}
+use mir.Val.{SFits}
+use mir.Facts.{toZ-ofZ}
 use Rattle.laws.specs.Parts.{Within}
+use Rattle.laws.specs.Expr.{machine}
 use Rattle.laws.specs.Logic.{neither}
 use Rattle.figures.specs.Outcome.{answered, refused}
 use Rattle.figures.proofs.Laws.{both-answered, not-refused}
@@ -33,6 +37,15 @@ node-in lat lon k e = let t = neither (beyondRange (node lat k)) (beyondRange (n
 pub node-not-beyond : (lat lon : List ℤ) (k : ℕ) → Within 6000000 (node lat k) → Within 6000000 (node lon k) → outOfRange lat lon k ≡ false
 unfolding outOfRange
 node-not-beyond lat lon k p q = rw (not-beyond p, not-beyond q)
+
+-- what the code's test of a corner tells, of shifts that it read as `x` and `y`
+pub corner-judged : (lat lon : List ℤ) (k : ℕ) {x y : ℤ} {r : Bool} → SFits w64 x → SFits w64 y → x ≡ node lat k → y ≡ node lon k
+    → r ≡ (beyondRange (machine x) || beyondRange (machine y)) → r ≡ outOfRange lat lon k
+unfolding outOfRange
+corner-judged lat lon k f g p q e =
+    let u = toZ-ofZ f ∙ p in
+    let v = toZ-ofZ g ∙ q in
+    e ∙ (λ i. beyondRange (u i) || beyondRange (v i))
 
 module _ (s : Shape) (lat lon : List ℤ) (k : Cell) where
   abbrev sw : ℕ

@@ -5,22 +5,15 @@ ghost use mathlib.Core.Path.{_≡_};
 ghost use Prim.Native.Nat.{_+_, _*_, _≤_, _<_};
 ghost use Rattle.laws.specs.Parts.{Within};
 ghost use Rattle.shift.specs.Round.{nearest};
-ghost use Rattle.shift.specs.Shift.{cornersAt, numerator, fourCorner};
+ghost use Rattle.shift.specs.Shift.{numerator, fourCorner};
 ghost use Rattle.shift.specs.Needs.{Weighted, CornersIn};
 
-// The shift of the component `s` in a cell whose west corners are the nodes `sw` and `nw`.
-pub(crate) fn component(s: &[i64], sw: usize, nw: usize, cell: Cell) -> i64
-    requires { ⌜ (sw < 100000) × (nw < 100000) × (CornersIn (cornersAt (now s) sw nw)) × (Weighted cell) ⌝ }
-    ensures { λ r. ⌜ r ≡ fourCorner (cornersAt (now (s .entry)) sw nw) cell ⌝ }
+pub(crate) fn four_corner(s: Corners, cell: Cell) -> i64
+    requires { ⌜ (CornersIn s) × (Weighted cell) ⌝ }
+    ensures { λ r. ⌜ r ≡ fourCorner s cell ⌝ }
 {
-    let corners = Corners {
-        s1: grid::node_shift(s, sw),
-        s2: grid::node_shift(s, sw + 1),
-        s3: grid::node_shift(s, nw),
-        s4: grid::node_shift(s, nw + 1),
-    };
     let denominator = (cell.a + cell.b) * (cell.c + cell.d);
-    rounded(numerator(corners, cell), denominator)
+    rounded(numerator(s, cell), denominator)
 }
 
 // S1·B·D + S2·A·D + S3·B·C + S4·A·C

@@ -8,8 +8,12 @@ use grid::Checked;
 use grid::Header;
 use grid::Shape;
 ghost use mathlib.Core.Path.{_≡_};
+ghost use mathlib.Core.Bool.{_||_};
+ghost use Prim.Native.Nat.{_+_, _*_, _≤_, _<_};
+ghost use lib.ListN.{length};
+ghost use Rattle.grid.specs.Nodes.{beyondRange};
 ghost use Rattle.grid.specs.Needs.{Extent};
-ghost use Rattle.shift.specs.Shift.{outcome, shiftAt, shiftOn, shiftIn};
+ghost use Rattle.shift.specs.Shift.{outcome, cornersAt, shiftAt, shiftOn, shiftIn};
 ghost use Rattle.shift.specs.Needs.{CellIn};
 
 // The cell of a point: the row and column of its southwest node, and the point's distances A and B from its west and east side,
@@ -55,6 +59,7 @@ pub fn shift_at<'a>(h: Header, lat: &'a [i64], lon: &'a [i64], x: usize, y: usiz
 
 fn shift_on<'a>(shape: Shape, lat: &'a [i64], lon: &'a [i64], x: usize, y: usize) -> Interpolated
     requires { ⌜ Extent shape ⌝ }
+    requires { ⌜ (shape .rows * shape .cols ≤ length (now lat)) × (shape .rows * shape .cols ≤ length (now lon)) ⌝ }
     ensures { λ r. ⌜ outcome r ≡ shiftOn shape (now (lat .entry)) (now (lon .entry)) x y ⌝ }
 {
     if (shape.cols - 1) * shape.dlon < x {
@@ -66,27 +71,52 @@ fn shift_on<'a>(shape: Shape, lat: &'a [i64], lon: &'a [i64], x: usize, y: usize
     shift_in(shape, lat, lon, locate::cell_at(shape, x, y))
 }
 
-// No corner beyond its range is used.
+// The corners are read, judged and only then used.
 fn shift_in<'a>(shape: Shape, lat: &'a [i64], lon: &'a [i64], cell: Cell) -> Interpolated
     requires { ⌜ (Extent shape) × (CellIn shape cell) ⌝ }
+    requires { ⌜ (shape .rows * shape .cols ≤ length (now lat)) × (shape .rows * shape .cols ≤ length (now lon)) ⌝ }
     ensures { λ r. ⌜ outcome r ≡ shiftIn shape (now (lat .entry)) (now (lon .entry)) cell ⌝ }
 {
     let sw = cell.row * shape.cols + cell.col;
     let nw = sw + shape.cols;
-    if grid::out_of_range(lat, lon, sw) {
+    let lats = corners_at(lat, sw, nw);
+    let lons = corners_at(lon, sw, nw);
+    if either_beyond(lats.s1, lons.s1) {
         return Interpolated::Refused(Refusal::Range(sw));
     }
-    if grid::out_of_range(lat, lon, sw + 1) {
+    if either_beyond(lats.s2, lons.s2) {
         return Interpolated::Refused(Refusal::Range(sw + 1));
     }
-    if grid::out_of_range(lat, lon, nw) {
+    if either_beyond(lats.s3, lons.s3) {
         return Interpolated::Refused(Refusal::Range(nw));
     }
-    if grid::out_of_range(lat, lon, nw + 1) {
+    if either_beyond(lats.s4, lons.s4) {
         return Interpolated::Refused(Refusal::Range(nw + 1));
     }
     Interpolated::At(Shift {
-        lat: interpolation::component(lat, sw, nw, cell),
-        lon: interpolation::component(lon, sw, nw, cell),
+        lat: interpolation::four_corner(lats, cell),
+        lon: interpolation::four_corner(lons, cell),
     })
+}
+
+// The corners of a cell whose west corners are the nodes `sw` and `nw`.
+fn corners_at(s: &[i64], sw: usize, nw: usize) -> Corners
+    requires { ⌜ (sw + 1 < length (now s)) × (nw + 1 < length (now s)) ⌝ }
+    ensures { λ r. ⌜ r ≡ cornersAt (now (s .entry)) sw nw ⌝ }
+{
+    Corners {
+        s1: s[sw],
+        s2: s[sw + 1],
+        s3: s[nw],
+        s4: s[nw + 1],
+    }
+}
+
+fn either_beyond(lat: i64, lon: i64) -> bool
+    ensures { λ r. ⌜ r ≡ (beyondRange lat || beyondRange lon) ⌝ }
+{
+    if grid::beyond_range(lat) {
+        return true;
+    }
+    grid::beyond_range(lon)
 }

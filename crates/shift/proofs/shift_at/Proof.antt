@@ -25,7 +25,8 @@ shift-on-requires : tie.Need-shift-on-requires
 shift-on-requires c κs =
     let l = c .before .before .before in
     let e = sym (l .check-layout .ensures) ∙ ap layoutOutcome (c .before .enum-told .given .1) in
-    rw (c .shape .ensures) (extent (laid _ _ _ e .header))
+    let d = laid _ _ _ e in
+    rw (c .shape .ensures) (extent (d .header), (d .room-lat, d .room-lon))
 
 returns : tie.Need-returns
 returns c = layout-refused _ _ _ _ _ (ap layoutOutcome (sym (c .before .why .given .1)) ∙ c .before .before .before .check-layout .ensures)

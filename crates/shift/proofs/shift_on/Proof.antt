@@ -11,7 +11,7 @@ sub-if1 : tie.Need-sub-if1
 sub-if1 c = search needs
 
 mul-if1 : tie.Need-mul-if1
-mul-if1 c = omega (arith, edges-small (c .before .before .pre))
+mul-if1 c = omega (arith, edges-small (c .before .before .pre .0))
 
 returns : tie.Need-returns
 returns c = let a = c .before .before .before .args in past-east (a .shape) (a .lat .now) (a .lon .now) (a .x) (a .y) (c .if1 .taken)
@@ -20,7 +20,7 @@ sub-if2 : tie.Need-sub-if2
 sub-if2 c = search needs
 
 mul-if2 : tie.Need-mul-if2
-mul-if2 c = omega (arith, edges-small (c .before .before .before .before .before .pre))
+mul-if2 c = omega (arith, edges-small (c .before .before .before .before .before .pre .0))
 
 returns-2 : tie.Need-returns-2
 returns-2 c = let a = c .before .before .before .before .before .before .args in past-north (a .shape) (a .lat .now) (a .lon .now) (a .x) (a .y) (c .before .before .before .if1 .left) (c .if2 .taken)
@@ -29,7 +29,9 @@ cell-at-requires : tie.Need-cell-at-requires
 cell-at-requires c κs = search needs
 
 shift-in-requires : tie.Need-shift-in-requires
-shift-in-requires c κs = let z = c .before .before .before .before .before .before .before .pre in (z, rw (c .cell-at .ensures) (cell-in z (cell-of-point z (c .before .before .before .before .if1 .left) (c .before .if2 .left))))
+shift-in-requires c κs =
+    let q = c .before .before .before .before .before .before .before .pre in
+    ((q .0, rw (c .cell-at .ensures) (cell-in (q .0) (cell-of-point (q .0) (c .before .before .before .before .if1 .left) (c .before .if2 .left)))), q .1)
 
 returns-3 : tie.Need-returns-3
 returns-3 c =

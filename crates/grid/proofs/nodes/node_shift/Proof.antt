@@ -1,10 +1,10 @@
--- `grid::node_shift` is the element, and the list's default past its end.
+-- `grid::nodes::node_shift` is the element, and the list's default past its end.
 use borrow.Author.Needs.{needs}
 use mathlib.Core.Path.{sym}
 use lib.IntN.{pos}
 use lib.ListN.{List·getD-eq-default}
-use Rattle.grid.proofs.node_shift.Statement.{statement}
-use Rattle.grid.proofs.node_shift.Tie as tie
+use Rattle.grid.proofs.nodes.node_shift.Statement.{statement}
+use Rattle.grid.proofs.nodes.node_shift.Tie as tie
 
 mul-result : tie.Need-mul-result
 mul-result c = search needs

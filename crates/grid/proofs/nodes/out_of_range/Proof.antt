@@ -3,8 +3,8 @@ use mathlib.Core.Path.{_≡_, sym, ap, _∙_}
 use mathlib.Core.Bool.{true, false}
 use Rattle.laws.specs.Tests.{element}
 use Rattle.grid.specs.Nodes.{node, beyondRange, outOfRange}
-use Rattle.grid.proofs.out_of_range.Statement.{statement}
-use Rattle.grid.proofs.out_of_range.Tie as tie
+use Rattle.grid.proofs.nodes.out_of_range.Statement.{statement}
+use Rattle.grid.proofs.nodes.out_of_range.Tie as tie
 
 node-shift-requires : tie.Need-node-shift-requires
 node-shift-requires c κs = search needs
