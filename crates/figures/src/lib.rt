@@ -33,14 +33,14 @@ impl Point27 {
 }
 
 impl Point83 {
-    pub fn same(self, other: Point83) -> bool
-        ensures { λ r. ⌜ r ≡ same83 self other ⌝ }
+    pub fn same(self, figure: Point83) -> bool
+        ensures { λ r. ⌜ r ≡ same83 self figure ⌝ }
     {
         let lat = self.lat;
         let lon = self.lon;
-        let other_lat = other.lat;
-        let other_lon = other.lon;
-        same_pair(lat.0, lon.0, other_lat.0, other_lon.0)
+        let figure_lat = figure.lat;
+        let figure_lon = figure.lon;
+        same_pair(lat.0, lon.0, figure_lat.0, figure_lon.0)
     }
 }
 

@@ -15,8 +15,8 @@ returns c =
     let s = c .before .before .before .before .before .before .before .before .before .args in
     let p : SFits w64 (s .self .lat .0) = search needs in
     let q : SFits w64 (s .self .lon .0) = search needs in
-    let u : SFits w64 (s .other .lat .0) = search needs in
-    let v : SFits w64 (s .other .lon .0) = search needs in
+    let u : SFits w64 (s .figure .lat .0) = search needs in
+    let v : SFits w64 (s .figure .lon .0) = search needs in
     c .same-pair .ensures ∙ (λ i. samePair (toZ-ofZ p i) (toZ-ofZ q i) (toZ-ofZ u i) (toZ-ofZ v i))
 
 pub same-spec : {M : Type 1} → statement M
