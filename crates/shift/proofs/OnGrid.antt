@@ -26,7 +26,7 @@ use Rattle.shift.specs.Shift.{numerator, fourCorner, cornersAt, southwes
 use Rattle.shift.specs.Needs.{CellIn, CornersIn}
 use Rattle.shift.specs.declared.Cell.{Cell}
 use Rattle.shift.specs.declared.Corners.{Corners}
-use Rattle.shift.proofs.Rounding.{nearest-raised}
+use Rattle.shift.proofs.Rounding.{nearest-raised, NearestAway, nearest-away}
 use Rattle.shift.proofs.Sums.{four-corner-within}
 use Rattle.shift.proofs.Cells.{CellOf, edges, spacings, cell-of-point, cell-in, corners-in, weighted}
 use Rattle.shift.proofs.Cases.{node-not-beyond, none-beyond, on-grid, layout-passes}
@@ -158,6 +158,11 @@ module _ {s : Shape} (z : Extent s) {S : List ℤ} (p : Sound s S) where
     pub shift-range : Within 6000000 (component s S x y)
     unfolding component
     shift-range = component-range (cell-in z (cell-of-point z hx hy))
+
+    -- demand 2: it is the exact fraction, rounded once
+    pub shift-rounded : let k = cellAt s x y in NearestAway (s .dlon * s .dlat) (numerator (cornersAt S (southwest (s .cols) k) (northwest (s .cols) k)) k) (component s S x y)
+    unfolding component
+    shift-rounded = rw (component-is (cell-in z (cell-of-point z hx hy))) (nearest-away _ _ (mul-pos (spacings z .0) (spacings z .1)))
 
     shift-nearest : Nearest (s .dlon * s .dlat) (surface (s .dlon) (s .dlat) (s .cols - 2) (s .rows - 2) (raisedNodes (s .cols) S) x y) (raise (component s S x y))
     unfolding component

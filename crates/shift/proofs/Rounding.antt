@@ -1,15 +1,16 @@
 -- Laws of rounding: what the theorems use (a nearest whole number, raised or not), and what the code has at each of its answers.
-use Prim.Native.Nat.{ℕ, suc, _+_, _*_, _/_, _%_, _≤_, _<_}
-use native.Mathlib.Nat.{mod-lt, zero-mod, zero-div}
+use Prim.Native.Nat.{ℕ, suc, _+_, _*_, _-_, _/_, _%_, _≤_, _<_}
+use native.Mathlib.Nat.{mod-lt, zero-mod, zero-div, div-add-mod}
 use native.Mathlib.Omega.{arith}
-use mathlib.Core.Path.{_≡_, refl, ap}
+use mathlib.Core.Path.{_≡_, refl, ap, _∙_}
+use mathlib.Core.Logic.{_⊎_, inl, inr, ⊎-elim}
 use mathlib.Core.Bool.{Bool, true, false, cond}
 use lib.Dec.{leb, leb→le}
 use borrow.Author.Tests.{le-leb, lt-leb, leb-true, leb-false}
-use lib.IntN.{ℤ, pos, negsuc, _+ℤ_, _-ℤ_, _*ℤ_}
+use lib.IntN.{ℤ, pos, negsuc, negℤ, natAbs, _+ℤ_, _-ℤ_, _*ℤ_}
 use lib.Signed.{quotZ, remZ, _≤ℤ_, _<ℤ_}
-use Rattle.laws.specs.Parts.{posPart, negPart, ints, Within, parts-disjoint}
-use Rattle.laws.specs.Bounds.{abs-neg}
+use Rattle.laws.specs.Parts.{posPart, negPart, ints, Within, parts-disjoint, abs-diff, abs-parts}
+use Rattle.laws.specs.Bounds.{abs-neg, abs-mul}
 use Rattle.laws.specs.Expr.{lit, linear, _⊕_, _⊖_, _⊛_, ⊝}
 use Rattle.laws.specs.Quotient.{quot-posPart, quot-negPart, rem-posPart, rem-negPart}
 use Rattle.bilinear.specs.Surface.{Nearest, nearest-up, nearest-down, nearest-between}
@@ -47,6 +48,43 @@ nearest-within K d (negsuc n) p h =
     record {
       size = omega (arith, abs-neg (pos (roundSize d (suc n))), nearest-between p (size-nearest d (suc n) p) 0 K (record { low = omega arith; high = h .size }) .high);
     }
+
+-- ---- what the rounding is, said without quotient and remainder
+
+-- `r` is a whole number nearest to z / d, and of two that are equally near the one farther from zero
+pub record NearestAway (d : ℕ) (z r : ℤ) : Type 0 where
+  pub near : 2 * natAbs (pos d *ℤ r -ℤ z) ≤ d
+  pub tie : 2 * natAbs (pos d *ℤ r -ℤ z) ≡ d → natAbs z ≤ natAbs (pos d *ℤ r)
+
+-- of sizes: the error, and where it is half the divisor the result is not the smaller
+size-away : (d n : ℕ) → 0 < d → (2 * (d * roundSize d n - n) + 2 * (n - d * roundSize d n) < d) ⊎ ((n ≤ d * roundSize d n) × (2 * (d * roundSize d n) ≤ 2 * n + d))
+unfolding roundSize
+size-away d n p = go (leb d (2 * (n % d))) refl
+  where
+    go : (b : Bool) → leb d (2 * (n % d)) ≡ b
+        → let r = cond b (suc (n / d)) (n / d) in (2 * (d * r - n) + 2 * (n - d * r) < d) ⊎ ((n ≤ d * r) × (2 * (d * r) ≤ 2 * n + d))
+    go true e = let l : d ≤ 2 * (n % d) = leb-true _ _ e in let m = div-add-mod n d in let k = mod-lt n p in inr (omega arith, omega arith)
+    go false e = let l : 2 * (n % d) < d = leb-false d (2 * (n % d)) e in let m = div-add-mod n d in inl (omega arith)
+
+pub nearest-away : (d : ℕ) (z : ℤ) → 0 < d → NearestAway d z (nearest d z)
+unfolding nearest
+nearest-away d (pos n) p =
+    let r = roundSize d n in
+    let e = linear (lit (pos d) ⊛ lit (pos r) ⊖ lit (pos n)) in
+    let a = abs-diff (pos d *ℤ pos r -ℤ pos n) in
+    ⊎-elim
+    (λ l. record { near = omega (arith, e, a); tie = λ t. absurd (omega (arith, e, a, t)) })
+    (λ l. record { near = omega (arith, e, a); tie = λ t. omega arith })
+    (size-away d n p)
+nearest-away d (negsuc n) p =
+    let r = roundSize d (suc n) in
+    let e = linear (lit (pos d) ⊛ ⊝ (lit (pos r)) ⊖ lit (negsuc n)) in
+    let a = abs-diff (pos d *ℤ negℤ (pos r) -ℤ negsuc n) in
+    let b = abs-mul (pos d) (negℤ (pos r)) ∙ ap (λ t. d * t) (abs-neg (pos r)) in
+    ⊎-elim
+    (λ l. record { near = omega (arith, e, a); tie = λ t. absurd (omega (arith, e, a, t)) })
+    (λ l. record { near = omega (arith, e, a); tie = λ t. omega (arith, b, l) })
+    (size-away d (suc n) p)
 
 -- ---- what the code has at each of its answers
 
