@@ -42,7 +42,7 @@ machine z = toZ w64 (ofZ w64 z)
 pub need : {z : ℤ} (e : Expr z) → T (e .parts && e .small) → SFits w64 (e .top)
 need e t = let s = and-yes (e .parts) (e .small) t in subst (SFits w64) (sym (e .stored (s .0))) (e .fit (s .1))
 
--- the needs at all of e's operations: each of them is  search (all e tt)
+-- the needs at all of e's operations: each of them is  search (all-needs e tt)
 pub all-needs : {z : ℤ} (e : Expr z) → T (e .parts && e .small) → SFits w64 (e .top) × e .Below
 all-needs e t = (need e t, e .below (and-yes (e .parts) (e .small) t .0))
 
@@ -155,7 +155,7 @@ _⊛_ {x} {y} a b = record {
   below = all-needs₂ a b;
 }
 
--- the code's -x is 0 - x, which is `at (pos 0) ⊖ x`; this is `negℤ`, for `lin`
+-- the code's -x is 0 - x, which is `lit (pos 0) ⊖ x`; this is `negℤ`, for `linear`
 abbrev pub ⊝ : {x : ℤ} → Expr x → Expr (negℤ x)
 ⊝ {x} a = record {
   up = a .down;

@@ -1,8 +1,7 @@
--- An integer as a difference of two naturals, z = P z - N z, so that antt's `omega`, which reads naturals alone, proves what is linear over ℤ.
---     P, N       the two parts: one of them is 0
---     ints       the rules that carry an order or an equation of integers, or a bound on one, to their parts, in a hypothesis and in a goal
--- So a linear goal over ℤ is `omega (arith, ints, lin e₁, .. , lin eₙ)`, with one `lin` (of `Exp`) for each compound expression in the goal or in a fact that is used.
--- Assumes nothing.
+-- An integer as a difference of two naturals, z = posPart z - negPart z, so that `omega`, which reads naturals alone, proves what is linear
+-- over ℤ. `ints` are the rules that carry an order or an equation of integers, or a bound on one, to their parts, in a hypothesis and in a goal.
+-- So a linear goal over ℤ is `omega (arith, ints, linear e₁, .., linear eₙ)`, with one `linear` (of `Expr`) for each compound expression in the goal
+-- or in a fact that is used.
 use mathlib.Core.Path.{_≡_, refl, sym, ap, _∙_}
 use Prim.Native.Nat.{ℕ, zero, suc, _+_, _*_, _-_, _≤_, _<_, _^_, min}
 use native.Mathlib.Omega.{arith}

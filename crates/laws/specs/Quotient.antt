@@ -1,5 +1,5 @@
--- Division of integers by a number above 0, toward zero: its parts, for `omega`, its place in an `Exp`, and rounding to the nearest.
--- Assumes nothing.
+-- Division of integers by a number above 0, toward zero: its parts, for `omega`, its place in an `Expr`, and functions of a size that keep
+-- the sign.
 use mathlib.Core.Path.{_≡_, refl, sym, subst, _∙_}
 use mathlib.Core.Bool.{_&&_}
 use Prim.Native.Nat.{ℕ, zero, suc, _/_, _%_, _≤_, _<_}
@@ -122,7 +122,7 @@ rem {x} {d} a b h = record {
   below = below-div a b h;
 }
 
--- ---- rounding to the nearest
+-- ---- the sign
 
 -- a function of sizes, with the number's own sign
 abbrev pub onSize : (ℕ → ℕ) → ℤ → ℤ

@@ -38,6 +38,16 @@ module _ {x y : ℤ} (a : Expr x) (b : Expr y) (t : T ((a .parts && a .small) &&
 pub eq-yes : {x y : ℤ} → SFits w64 x → SFits w64 y → ofZ w64 x ≡ ofZ w64 y → x ≡ y
 eq-yes f g p = sym (toZ-ofZ f) ∙ ap (toZ w64) p ∙ toZ-ofZ g
 
+-- so the test of the bits is the test of the numbers
+pub eq-bits : {x y : ℤ} → SFits w64 x → SFits w64 y → eqb (ofZ w64 x) (ofZ w64 y) ≡ eqZ x y
+eq-bits {x} {y} f g = go (eqb (ofZ w64 x) (ofZ w64 y)) refl (eqZ x y) refl
+  where
+    go : (a : Bool) → eqb (ofZ w64 x) (ofZ w64 y) ≡ a → (b : Bool) → eqZ x y ≡ b → a ≡ b
+    go true p true q = refl
+    go true p false q = absurd (not-both (eqZ-true (eq-yes f g (eqb-true _ _ p))) q)
+    go false p true q = absurd (eqb-false _ _ p (ap (ofZ w64) (eqZ-holds q)))
+    go false p false q = refl
+
 -- ---- the cast to `usize` of what is not negative
 
 pub need-cast : {z : ℤ} (e : Expr z) → pos 0 ≤ℤ z → T (e .parts && e .small) → T (nonNeg (e .got)) × Fits w64 (natAbs (e .got))
@@ -58,13 +68,3 @@ part-whole {x = negsuc n} h = absurd (h .le)
 -- what is read of a slice, as it comes back from the machine
 pub element : {z : ℤ} → mag z < 2 ^ 63 → machine z ≡ z
 element h = toZ-ofZ (record { sfits = h })
-
--- so the test of the bits is the test of the numbers
-pub eq-bits : {x y : ℤ} → SFits w64 x → SFits w64 y → eqb (ofZ w64 x) (ofZ w64 y) ≡ eqZ x y
-eq-bits {x} {y} f g = go (eqb (ofZ w64 x) (ofZ w64 y)) refl (eqZ x y) refl
-  where
-    go : (a : Bool) → eqb (ofZ w64 x) (ofZ w64 y) ≡ a → (b : Bool) → eqZ x y ≡ b → a ≡ b
-    go true p true q = refl
-    go true p false q = absurd (not-both (eqZ-true (eq-yes f g (eqb-true _ _ p))) q)
-    go false p true q = absurd (eqb-false _ _ p (ap (ofZ w64) (eqZ-holds q)))
-    go false p false q = refl
