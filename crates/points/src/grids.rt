@@ -68,6 +68,14 @@ impl OneCell {
     pub(crate) fn to27(self, lat: i64, lon: i64) -> Answer27 {
         convert::to27(self.header, &self.lat, &self.lon, point83(lat, lon))
     }
+
+    pub(crate) fn forward(self, lat: i64, lon: i64) -> Answer83 {
+        convert::forward(self.header, &self.lat, &self.lon, point27(lat, lon))
+    }
+
+    pub(crate) fn inverse(self, lat: i64, lon: i64) -> Answer27 {
+        convert::inverse(self.header, &self.lat, &self.lon, point83(lat, lon))
+    }
 }
 
 // Sheet P: the corners of the bulletin's hand example.

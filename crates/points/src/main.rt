@@ -6,6 +6,7 @@ mod far;
 mod grids;
 mod misreadings;
 mod nodes;
+mod once;
 mod order;
 mod rules;
 mod starred;
@@ -28,6 +29,8 @@ fn main() {
     let t = steepness::limits(t);
     let t = steepness::lowest(t);
     let t = order::refusals(t);
+    let t = once::checked(t);
+    let t = once::damaged(t);
     let t = misreadings::rows_from_the_north(t);
     let t = misreadings::printed_sign(t);
     let t = misreadings::shift_at_the_figure(t);
