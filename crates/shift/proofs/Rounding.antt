@@ -9,7 +9,7 @@ use lib.Dec.{leb, leb→le}
 use borrow.Author.Tests.{le-leb, lt-leb, leb-true, leb-false}
 use lib.IntN.{ℤ, pos, negsuc, negℤ, natAbs, _+ℤ_, _-ℤ_, _*ℤ_}
 use lib.Signed.{quotZ, remZ, _≤ℤ_, _<ℤ_}
-use Rattle.laws.specs.Parts.{posPart, negPart, ints, Within, parts-disjoint, abs-diff, abs-parts}
+use Rattle.laws.specs.Parts.{posPart, negPart, ints, Within, parts-disjoint, abs-diff}
 use Rattle.laws.specs.Bounds.{abs-neg, abs-mul}
 use Rattle.laws.specs.Expr.{lit, linear, _⊕_, _⊖_, _⊛_, ⊝}
 use Rattle.laws.specs.Quotient.{quot-posPart, quot-negPart, rem-posPart, rem-negPart}
