@@ -47,9 +47,9 @@ module _ (h : Header) (lat lon : List ℤ) where
           go true s = absurd (answer-not-refusal (e ∙ ap (to83 h lat lon) (equal27 s) ∙ sym d))
           go false s = refl
 
-      pub both-answered : {g : Point83} → answered g ≡ to83 h lat lon q → same83 f g ≡ oneAnswer h lat lon p q
+      pub answers-compared : {g : Point83} → answered g ≡ to83 h lat lon q → same83 f g ≡ oneAnswer h lat lon p q
       unfolding oneAnswer
-      both-answered {g} d = rw (← e) (go (same83 f g) refl (same27 p q) refl)
+      answers-compared {g} d = rw (← e) (go (same83 f g) refl (same27 p q) refl)
         where
           go : (a : Bool) → same83 f g ≡ a → (b : Bool) → same27 p q ≡ b → a ≡ b
           go true s true t = refl

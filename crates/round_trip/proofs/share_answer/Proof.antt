@@ -1,4 +1,4 @@
-use Rattle.round_trip.proofs.Laws.{first-refused, second-refused, both-answered}
+use Rattle.round_trip.proofs.Laws.{first-refused, second-refused, answers-compared}
 use Rattle.convert.specs.Convert.{outcome83}
 use mathlib.Core.Path.{sym, ap, _∙_}
 use borrow.Author.Needs.{needs}
@@ -37,7 +37,7 @@ returns-2 c =
 returns-3 : tie.Need-returns-3
 returns-3 c =
     let a = c .before .before .before .before .before .before .before .before .before .args in
-    c .same .ensures ∙ both-answered (a .h) (a .lat .now) (a .lon .now) (a .p) (a .q) (ap outcome83 (sym (c .before .before .before .before .before .before .f .given .1)) ∙ c .before .before .before .before .before .before .before .before .to83 .ensures) (ap outcome83 (sym (c .before .before .g .given .1)) ∙ c .before .before .before .before .to832 .ensures)
+    c .same .ensures ∙ answers-compared (a .h) (a .lat .now) (a .lon .now) (a .p) (a .q) (ap outcome83 (sym (c .before .before .before .before .before .before .f .given .1)) ∙ c .before .before .before .before .before .before .before .before .to83 .ensures) (ap outcome83 (sym (c .before .before .g .given .1)) ∙ c .before .before .before .before .to832 .ensures)
 
 pub share-answer-spec : {M : Type 1} → statement M
 share-answer-spec =
