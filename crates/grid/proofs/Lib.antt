@@ -1,3 +1,4 @@
 pub mod RuleLaws
 pub mod NodeLaws
 pub mod Passing
+pub mod Front

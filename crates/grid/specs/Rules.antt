@@ -1,5 +1,5 @@
 -- The rules of the header (document 01, "Header rules, in order").
-use Prim.Native.Nat.{ℕ, suc}
+use Prim.Native.Nat.{ℕ, suc, _*_}
 use mathlib.Core.Bool.{Bool, true, false, _&&_}
 use mathlib.Core.List.{List, [], _∷_}
 use lib.IntN.{ℤ, pos, negℤ, _+ℤ_, _-ℤ_, _*ℤ_}
@@ -59,3 +59,7 @@ eastEdge h = lastNode (h .west .0) (h .dlon) (h .cols)
 -- the header's sizes, as naturals
 abbrev pub shape : Header → Shape
 shape h = record { rows = posPart (h .rows); cols = posPart (h .cols); dlat = posPart (h .dlat); dlon = posPart (h .dlon) }
+
+-- rows × cols
+abbrev pub nodeCount : Header → ℕ
+nodeCount h = shape h .rows * shape h .cols

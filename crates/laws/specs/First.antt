@@ -33,3 +33,9 @@ first-past p (suc n) j l h = past p (first (λ k. p (suc k)) n) (p 0) refl n (λ
 -- where the search came to the end, the test holds nowhere
 pub first-none : (p : ℕ → Bool) (n : ℕ) → ltb (first p n) n ≡ false → (j : ℕ) → j < n → p j ≡ false
 first-none p n e j h = first-past p n j (ltb-false _ _ e) h
+
+-- a search looks at the numbers below its end alone
+pub first-same : (p q : ℕ → Bool) (n : ℕ) → ((j : ℕ) → j < n → p j ≡ q j) → first p n ≡ first q n
+unfolding first
+first-same p q zero h = refl
+first-same p q (suc n) h = rw (h 0 (omega arith), first-same (λ k. p (suc k)) (λ k. q (suc k)) n (λ j l. h (suc j) (omega arith)))

@@ -5,3 +5,4 @@ pub mod Tests
 pub mod Quotient
 pub mod Logic
 pub mod First
+pub mod Bytes

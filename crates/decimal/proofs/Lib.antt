@@ -1,0 +1,9 @@
+pub mod Bytes
+pub mod Signs
+pub mod Digits
+pub mod Grown
+pub mod Spelled
+pub mod Grammar
+pub mod Over
+pub mod Magnitude
+pub mod Lengths

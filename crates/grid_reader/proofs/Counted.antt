@@ -1,0 +1,142 @@
+-- A text that was read beyond the header has no more nodes than the rules allow, and than there is room for.
+use Prim.Native.Nat.{ℕ, _+_, _≤_, _<_, min}
+use mathlib.Core.Path.{_≡_, refl, sym, ap, subst, _∙_}
+use mathlib.Core.Bool.{Bool, true, false, not, _&&_, _||_, cond}
+use mathlib.Core.List.{List, [], _∷_}
+use native.Mathlib.Omega.{arith}
+use borrow.Author.Tests.{ltb-true, ltb-false, eqb-true, eqb-false}
+use lib.Dec.{ltb, eqb}
+use lib.ListN.{length}
+use lib.IntN.{ℤ}
+use Rattle.decimal.specs.Pushing.{pushed, valueOf}
+use Rattle.decimal.specs.declared.Pushed.{Pushed}
+use Rattle.grid.specs.Rules.{brokenRule, nodeCount}
+use Rattle.grid.specs.Nodes.{beyondRange}
+use Rattle.grid.specs.declared.Header.{Header}
+use Rattle.grid.proofs.RuleLaws.{rules-hold, extent}
+use Rattle.grid_reader.specs.Scan.{form, formAt, start, headerNumberEnd, headerEnd, nodeEnd, countEnd, closed, leads, grown, push, numberStep, literalStep, step, taken, fed}
+use Rattle.grid_reader.specs.Needs.{Stored}
+use Rattle.grid_reader.specs.declared.Scan.{Scan}
+use Rattle.grid_reader.specs.declared.Step.{Step}
+use Rattle.grid_reader.specs.declared.Taken.{Taken}
+use Rattle.grid_reader.proofs.Feeding.{Leaves, fed-lengths}
+
+-- the header is whole from place 62 on
+record Counted (room : ℕ) (s : Scan) : Type 0 where
+  few : 62 ≤ s .at → s .count ≤ 2048
+  held : 62 ≤ s .at → s .count ≤ room
+
+-- the same of the state that a byte or a text leaves, if it leaves one
+abbrev Stepped : ℕ → Step → Type 0
+Stepped room (Step.On t) = Counted room t
+Stepped room (Step.Node t a b) = Counted room t
+Stepped room (Step.Refused w) = Unit
+
+abbrev Reached : ℕ → Taken → Type 0
+Reached room (Taken.On t) = Counted room t
+Reached room (Taken.Refused w) = Unit
+
+by-cond : (room : ℕ) (b : Bool) (x y : Step) → (b ≡ true → Stepped room x) → (b ≡ false → Stepped room y) → Stepped room (cond b x y)
+by-cond room true x y f g = f refl
+by-cond room false x y f g = g refl
+
+module _ (room : ℕ) where
+  header-counted : (h : Header) → Stepped room (headerEnd room h)
+  unfolding headerEnd
+  header-counted h =
+      by-cond room (eqb (brokenRule h) 0) _ _
+      (λ e. by-cond room (ltb room (nodeCount h)) _ _ (λ _. tt)
+      (λ l. record { few = λ _. extent (rules-hold h (eqb-true (brokenRule h) 0 e)) .nodes; held = λ _. ltb-false room (nodeCount h) l }))
+      (λ _. tt)
+
+  module _ (s : Scan) (c : Counted room s) where
+    -- a state with the same count, beyond the header only where s is
+    kept : (t : Scan) → (62 ≤ t .at → 62 ≤ s .at) → t .count ≡ s .count → Counted room t
+    kept t p e = record { few = λ h. omega (arith, c .few (p h)); held = λ h. omega (arith, c .held (p h)) }
+
+    node-counted : (x : ℤ) → 62 ≤ s .at → Stepped room (nodeEnd s x)
+    unfolding nodeEnd
+    node-counted x h =
+        by-cond room (beyondRange (s .lat) || beyondRange x) _ _ (λ _. tt)
+        (λ _. by-cond room (ltb (s .node + 1) (s .count)) _ _ (λ _. kept _ (λ _. h) refl) (λ _. kept _ (λ _. h) refl))
+
+    count-counted : 62 ≤ s .at → Stepped room (countEnd s)
+    unfolding countEnd
+    count-counted h = by-cond room (eqb (s .number .magnitude) (s .count)) _ _ (λ _. kept _ (λ _. h) refl) (λ _. tt)
+
+    -- a number of the header ends before place 62
+    header-number-counted : (x : ℤ) → formAt (s .at) ≡ 35 → s .at < 61 → Stepped room (headerNumberEnd s x)
+    unfolding headerNumberEnd form
+    header-number-counted x p l = kept _ (λ h. absurd (let e : 60 ≡ s .at = omega arith in omega (arith, ap formAt e ∙ p))) refl
+
+    closed-counted : (x : ℤ) → formAt (s .at) ≡ 35 → Stepped room (closed room s x)
+    unfolding closed
+    closed-counted x p =
+        by-cond room (ltb (s .at) 61) _ _ (λ l. header-number-counted x p (ltb-true (s .at) 61 l))
+        (λ l. by-cond room (eqb (s .at) 61) _ _ (λ _. header-counted _)
+        (λ e. let h : 62 ≤ s .at = beyond (ltb-false (s .at) 61 l) (eqb-false (s .at) 61 e) in
+        by-cond room (eqb (s .at) 68) _ _ (λ _. kept _ (λ _. h) refl)
+        (λ _. by-cond room (eqb (s .at) 70) _ _ (λ _. node-counted x h) (λ _. count-counted h))))
+      where
+        beyond : {n : ℕ} → 61 ≤ n → (n ≡ 61 → ⊥) → 62 ≤ n
+        beyond h n = omega arith
+
+    push-counted : (x : Pushed) → Stepped room (push s x)
+    unfolding grown
+    push-counted (Pushed.Grown n) = by-cond room (eqb (s .at) 76 && not (leads n (s .count))) _ _ (λ _. tt) (λ _. kept _ (λ h. h) refl)
+    push-counted Pushed.Refused = tt
+
+    number-counted : (b : ℕ) → formAt (s .at) ≡ 35 → Stepped room (numberStep room s b)
+    unfolding numberStep
+    number-counted b p =
+        by-cond room (eqb b (formAt (s .at + 1))) _ _
+        (λ _. by-cond room (s .number .begun) _ _ (λ _. closed-counted (valueOf (s .number)) p) (λ _. tt))
+        (λ _. push-counted (pushed (s .number) b))
+
+    literal-counted : (b : ℕ) → (formAt (s .at) ≡ 35 → ⊥) → Stepped room (literalStep s b)
+    unfolding literalStep form
+    literal-counted b p =
+        let n : s .at ≡ 61 → ⊥ = λ e. p (ap formAt e) in
+        by-cond room (ltb (s .at) 78 && eqb b (formAt (s .at))) _ _
+        (λ _. kept _ (λ h. omega arith) refl)
+        (λ _. tt)
+
+    step-counted : (b : ℕ) → Stepped room (step room s b)
+    unfolding step
+    step-counted b =
+        by-cond room (eqb (formAt (s .at)) 35) _ _
+        (λ e. number-counted b (eqb-true (formAt (s .at)) 35 e)) (λ e. literal-counted b (eqb-false (formAt (s .at)) 35 e))
+
+  taken-counted : (s : Scan) (lat lon : List ℤ) (x : Step) → Stepped room x → Reached room (taken s lat lon x .out)
+  unfolding taken
+  taken-counted s lat lon (Step.On t) c = c
+  taken-counted s lat lon (Step.Node t a b) c = c
+  taken-counted s lat lon (Step.Refused w) c = tt
+
+  fed-counted : (o : Taken) (lat lon : List ℤ) (text : List ℕ) → Reached room o → Reached room (fed room o lat lon text .out)
+  unfolding fed
+  fed-counted o lat lon [] c = c
+  fed-counted (Taken.On s) lat lon (b ∷ text) c =
+      let f = taken s lat lon (step room s b) in
+      fed-counted (f .out) (f .lat) (f .lon) text (taken-counted s lat lon (step room s b) (step-counted s c b))
+  fed-counted (Taken.Refused w) lat lon (b ∷ text) c = tt
+
+  reached : (lat lon : List ℤ) (text : List ℕ) {s : Scan} → Taken.On s ≡ fed room (Taken.On start) lat lon text .out → Counted room s
+  reached lat lon text e =
+      subst (Reached room) (sym e) (fed-counted (Taken.On start) lat lon text (record { few = λ h. absurd (omega arith); held = λ h. absurd (omega arith) }))
+
+-- what `finish` asks, of a text that was read as far as s
+pub stored : {room : ℕ} (text : List ℕ) (lat lon lats lons : List ℤ) {o : Taken} {lats′ lons′ : List ℤ} → 2048 ≤ length lats → 2048 ≤ length lons
+    → room ≡ min (length lat) (length lon) → Leaves (fed room (Taken.On start) lats lons text) o lats′ lons′
+    → {s : Scan} → o ≡ Taken.On s → Stored s lats′ lons′ lat lon
+stored {room} text lat lon lats lons l m r e g =
+    let c = reached room lats lons text (sym g ∙ e .0) in
+    let n = fed-lengths room (Taken.On start) lats lons text in
+    let p = ap length (e .1 .0) ∙ n .0 in
+    let q = ap length (e .1 .1) ∙ n .1 in
+    record {
+      in-lats = λ w. omega (arith, c .few (omega arith));
+      in-lons = λ w. omega (arith, c .few (omega arith));
+      in-lat = λ w. omega (arith, c .held (omega arith));
+      in-lon = λ w. omega (arith, c .held (omega arith));
+    }

@@ -1,0 +1,9 @@
+pub mod Places
+pub mod Feeding
+pub mod Counted
+pub mod Onward
+pub mod Pieces
+pub mod Count
+pub mod LineByLine
+pub mod Endings
+pub mod Cuts

@@ -1,0 +1,111 @@
+use borrow.Author.Needs.{needs}
+use Prim.Native.Nat.{_-_, _≤_}
+use native.Mathlib.Omega.{arith}
+use mathlib.Core.Path.{_≡_, refl, ap, _∙_}
+use lib.ListN.{length, drop}
+use Rattle.grid_reader.specs.Scan.{start, fed}
+use Rattle.grid_reader.specs.declared.Taken.{Taken}
+use Rattle.grid_reader.proofs.Feeding.{taken-lengths, fed-again, fed-left, fed-end}
+use Rattle.grid_reader.proofs.nodes.scan.Statement.{statement}
+use Rattle.grid_reader.proofs.nodes.scan.Tie as tie
+use Rattle.grid_reader.proofs.nodes.scan.Reads as reads
+use Rattle.grid_reader.proofs.nodes.scan.Lts as lts
+use Rattle.grid_reader.proofs.nodes.take.Reads as take-reads
+use Rattle.grid_reader.proofs.scanner.begin.Reads as begin-reads
+
+abbrev Inv-loop : tie.InvT-loop
+Inv-loop text room lat₀ lon₀ at₀ i₀ lat lon at i =
+    (i ≤ length text)
+    × (fed room (Taken.On at) lat lon (drop i text) ≡ fed room (Taken.On start) lat₀ lon₀ text)
+    × (length lat ≡ length lat₀)
+    × (length lon ≡ length lon₀)
+
+abbrev μ-loop : tie.MeasureT-loop
+μ-loop text room lat₀ lon₀ at₀ i₀ lat lon at i = length text - i
+
+-- after a byte
+module _ (c : lts.After-take (begin-reads.Asked, begin-reads.Learnt, take-reads.Asked, take-reads.Learnt) reads.Pre reads.Post Inv-loop μ-loop) where
+  lengths : (length (c .take .last .1 .1 .1 .0) ≡ length (c .before .before .before .before .before .before .before .before .args .lat .now))
+      × (length (c .take .last .1 .1 .1 .1 .0) ≡ length (c .before .before .before .before .before .before .before .before .args .lon .now))
+  lengths =
+      let l = c .before .before .before .before .before .loop .inv in
+      (ap length (c .take .ensures .1 .0) ∙ taken-lengths _ _ _ _ .0 ∙ l .2, ap length (c .take .ensures .1 .1) ∙ taken-lengths _ _ _ _ .1 ∙ l .3)
+
+begin-requires : tie.Need-begin-requires Inv-loop μ-loop
+begin-requires c κs = search needs
+
+loop-holds : tie.Need-loop-holds Inv-loop μ-loop
+loop-holds c =
+    let a = c .before .before .args in
+    (omega arith, ap (λ s. fed (a .room) (Taken.On s) (a .lat .now) (a .lon .now) (a .text .now)) (c .begin .ensures), refl, refl)
+
+shared-slice-read-take : tie.Need-shared-slice-read-take Inv-loop μ-loop
+shared-slice-read-take c = search needs
+
+take-requires : tie.Need-take-requires Inv-loop μ-loop
+take-requires c κs = search needs
+
+enum-known-next : tie.Need-enum-known-next Inv-loop μ-loop
+enum-known-next c = search needs
+
+enum-known-why : tie.Need-enum-known-why Inv-loop μ-loop
+enum-known-why c = search needs
+
+same-length : tie.Need-same-length Inv-loop μ-loop
+same-length c = lengths (c .before .before .before .before .before) .0
+
+same-length-2 : tie.Need-same-length-2 Inv-loop μ-loop
+same-length-2 c = lengths (c .before .before .before .before .before) .1
+
+returns : tie.Need-returns Inv-loop μ-loop
+returns c =
+    let t = c .before .before .before .before .before in
+    let l = t .before .before .before .before in
+    fed-left _ _ _ _ _ _ _ (l .before .loop .inv .1) (l .loop-test .taken) (t .take .ensures) (c .before .why .given .1)
+
+add-i : tie.Need-add-i Inv-loop μ-loop
+add-i c = omega arith
+
+loop-less : tie.Need-loop-less Inv-loop μ-loop
+loop-less c = omega arith
+
+loop-again : tie.Need-loop-again Inv-loop μ-loop
+loop-again c =
+    let t = c .before .before .before .before .before in
+    let l = t .before .before .before .before in (
+      omega arith,
+      fed-again _ _ _ _ _ _ _ (l .before .loop .inv .1) (l .loop-test .taken) (t .take .ensures) (c .before .next .given .1),
+      lengths t .0,
+      lengths t .1,
+    )
+
+same-length-3 : tie.Need-same-length-3 Inv-loop μ-loop
+same-length-3 c = c .before .loop .inv .2
+
+same-length-4 : tie.Need-same-length-4 Inv-loop μ-loop
+same-length-4 c = c .before .loop .inv .3
+
+returns-2 : tie.Need-returns-2 Inv-loop μ-loop
+returns-2 c = fed-end _ _ _ _ _ _ _ (c .before .loop .inv .1) (c .loop-test .left)
+
+pub scan-spec : {M : Type 1} → statement M
+scan-spec =
+    tie.close
+    (tie.spec
+    Inv-loop
+    μ-loop
+    begin-requires
+    loop-holds
+    shared-slice-read-take
+    take-requires
+    enum-known-next
+    enum-known-why
+    same-length
+    same-length-2
+    returns
+    add-i
+    loop-less
+    loop-again
+    same-length-3
+    same-length-4
+    returns-2)

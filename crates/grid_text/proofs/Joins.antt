@@ -1,0 +1,42 @@
+-- The texts as their writers put them together: a front, and the parts behind it.
+use Prim.Native.Nat.{ℕ}
+use mathlib.Core.Path.{_≡_, refl, sym, ap}
+use mathlib.Core.List.{List, [], _∷_, _++_, append-assoc}
+use lib.IntN.{ℤ, pos}
+use Rattle.laws.specs.Bytes.{bytes}
+use Rattle.decimal.specs.Spelling.{spell}
+use Rattle.decimal.proofs.Over.{joined}
+use Rattle.grid.specs.Rules.{nodeCount}
+use Rattle.grid.specs.declared.Header.{Header}
+use Rattle.grid_text.specs.Text.{line, headerText, nodeLine, nodeLines, gridText}
+
+-- the newline
+abbrev pub newline : List ℕ
+newline = bytes "\n"
+
+pub line-joins : (key : List ℕ) (x : ℤ) → joined (key ++ spell x) (newline ∷ []) ≡ line key x
+unfolding line
+line-joins key x = refl
+
+pub node-joins : (a b : ℤ) → joined (bytes "node=" ++ spell a) ((bytes "," ++ spell b) ∷ newline ∷ []) ≡ nodeLine a b
+unfolding nodeLine
+node-joins a b = ap (λ (t : List ℕ). t ++ newline) (sym (append-assoc (bytes "node=" ++ spell a) (bytes ",") (spell b)))
+
+-- behind the titles
+abbrev pub headerLines : Header → List (List ℕ)
+headerLines h =
+    line (bytes "south=") (h .south .0)
+    ∷ line (bytes "west=") (h .west .0)
+    ∷ line (bytes "dlat=") (h .dlat)
+    ∷ line (bytes "dlon=") (h .dlon)
+    ∷ line (bytes "rows=") (h .rows)
+    ∷ line (bytes "cols=") (h .cols)
+    ∷ []
+
+pub header-joins : (h : Header) → joined (bytes "from=NAD27\nto=NAD83\n") (headerLines h) ≡ headerText h
+unfolding headerText
+header-joins h = refl
+
+pub grid-joins : (h : Header) (lat lon : List ℤ) → joined (headerText h) (nodeLines lat lon (nodeCount h) ∷ line (bytes "end=") (pos (nodeCount h)) ∷ []) ≡ gridText h lat lon
+unfolding gridText
+grid-joins h lat lon = refl

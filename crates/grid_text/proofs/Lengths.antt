@@ -1,0 +1,106 @@
+-- How long the parts of a grid's text are.
+use Prim.Native.Nat.{ℕ, zero, suc, _+_, _*_, _≤_}
+use mathlib.Core.Path.{_≡_}
+use mathlib.Core.List.{List, [], _++_}
+use mathlib.Core.Logic.{⊎-elim}
+use native.Mathlib.Omega.{arith}
+use native.Mathlib.Nat.{le-refl}
+use native.Mathlib.Numerals.{add-one}
+use lib.ListN.{length, length-append}
+use lib.Dec.{T, leb}
+use lib.IntN.{ℤ, pos, natAbs}
+use Rattle.laws.specs.Parts.{Within}
+use Rattle.laws.specs.Bounds.{own-size, widen}
+use Rattle.laws.specs.Bytes.{bytes}
+use Rattle.decimal.specs.Spelling.{spell}
+use Rattle.decimal.proofs.Lengths.{length-spell}
+use Rattle.decimal.proofs.Digits.{lt-or-ge}
+use Rattle.grid.specs.Rules.{nodeCount}
+use Rattle.grid.specs.declared.Header.{Header}
+use Rattle.grid.specs.Nodes.{node}
+use Rattle.grid.specs.Check.{Passes}
+use Rattle.grid.specs.Needs.{InRange}
+use Rattle.grid.proofs.RuleLaws.{Between, between-within, RulesHold, extent}
+use Rattle.grid.proofs.Passing.{good}
+use Rattle.grid_text.specs.Text.{line, headerText, nodeLine, nodeLines, gridText}
+
+pub length-line : (key : List ℕ) (x : ℤ) → length (line key x) ≡ length key + length (spell x) + 1
+unfolding line
+length-line key x = simp length-append
+
+pub length-node : (a b : ℤ) → length (nodeLine a b) ≡ length (spell a) + length (spell b) + 7
+unfolding nodeLine
+length-node a b = simp length-append (omega arith)
+
+pub length-header : (h : Header) → length (headerText h) ≡ 20 + length (line (bytes "south=") (h .south .0)) + length (line (bytes "west=") (h .west .0)) + length (line (bytes "dlat=") (h .dlat)) + length (line (bytes "dlon=") (h .dlon)) + length (line (bytes "rows=") (h .rows)) + length (line (bytes "cols=") (h .cols))
+unfolding headerText
+length-header h = simp length-append (omega arith)
+
+pub nodes-next : (lat lon : List ℤ) (k : ℕ) → nodeLines lat lon (k + 1) ≡ nodeLines lat lon k ++ nodeLine (node lat k) (node lon k)
+unfolding nodeLines
+nodes-next lat lon k = rw add-one
+
+-- fewer nodes take no more bytes
+pub nodes-grow : (lat lon : List ℤ) (k n : ℕ) → k ≤ n → length (nodeLines lat lon k) ≤ length (nodeLines lat lon n)
+unfolding nodeLines
+nodes-grow lat lon k zero h = let e : k ≡ 0 = omega arith in rw e (le-refl _)
+nodes-grow lat lon k (suc n) h =
+    ⊎-elim
+    (λ l. simp length-append (omega (arith, nodes-grow lat lon k n (omega arith))))
+    (λ g. let e : k ≡ suc n = omega arith in rw e (le-refl _))
+    (lt-or-ge k (suc n))
+
+pub length-grid : (h : Header) (lat lon : List ℤ) → length (gridText h lat lon) ≡ length (headerText h) + length (nodeLines lat lon (nodeCount h)) + length (line (bytes "end=") (pos (nodeCount h)))
+unfolding gridText
+length-grid h lat lon = simp length-append (omega arith)
+
+-- ---- the text of a grid that passes the checks is at most 48,000 bytes long
+
+-- "Each shift is from −6,000,000 to 6,000,000": 7 digits and a minus
+shift-length : {x : ℤ} → Within 6000000 x → length (spell x) ≤ 8
+shift-length {x} h = length-spell x 7 (omega arith) (omega arith)
+
+nodes-length : (lat lon : List ℤ) (n k : ℕ) → InRange n lat → InRange n lon → k ≤ n → length (nodeLines lat lon k) ≤ 23 * k
+unfolding nodeLines
+nodes-length lat lon n zero p q h = omega arith
+nodes-length lat lon n (suc k) p q h =
+    simp length-append
+    (omega (arith, nodes-length lat lon n k p q (omega arith), length-node (node lat k) (node lon k), shift-length (p .range k h), shift-length (q .range k h)))
+
+-- no number of the header has more than 9 digits
+number-length : {lo x hi : ℤ} → Between lo x hi → T (leb (natAbs lo) 999999999) → T (leb (natAbs hi) 999999999) → length (spell x) ≤ 10
+number-length {lo} {x} {hi} b s t = let w = between-within 999999999 b (widen (own-size lo) s) (widen (own-size hi) t) in length-spell x 9 (omega arith) (omega arith)
+
+header-length : {h : Header} → RulesHold h → length (headerText h) ≤ 122
+header-length {h} r =
+    omega (
+      arith,
+      length-header h,
+      length-line (bytes "south=") (h .south .0),
+      number-length (r .south) tt tt,
+      length-line (bytes "west=") (h .west .0),
+      number-length (r .west) tt tt,
+      length-line (bytes "dlat=") (h .dlat),
+      number-length (r .dlat) tt tt,
+      length-line (bytes "dlon=") (h .dlon),
+      number-length (r .dlon) tt tt,
+      length-line (bytes "rows=") (h .rows),
+      number-length (r .rows) tt tt,
+      length-line (bytes "cols=") (h .cols),
+      number-length (r .cols) tt tt,
+    )
+
+pub text-length : (h : Header) (lat lon : List ℤ) → Passes h lat lon → length (gridText h lat lon) ≤ 48000
+text-length h lat lon e =
+    let g = good h lat lon e in
+    let n = nodeCount h in
+    let m : n ≤ 2048 = extent (g .header) .nodes in
+    omega (
+      arith,
+      length-grid h lat lon,
+      header-length (g .header),
+      m,
+      nodes-length lat lon n n (g .of-lat .ranged) (g .of-lon .ranged) (omega arith),
+      length-line (bytes "end=") (pos n),
+      length-spell (pos n) 4 (omega arith) (omega arith),
+    )

@@ -1,0 +1,37 @@
+-- The text of a grid (document 01, "The sheet").
+use Prim.Native.Nat.{ℕ, zero, suc}
+use mathlib.Core.List.{List, [], _++_}
+use lib.IntN.{ℤ, pos}
+use Rattle.laws.specs.Bytes.{bytes}
+use Rattle.decimal.specs.Spelling.{spell}
+use Rattle.grid.specs.Rules.{nodeCount}
+use Rattle.grid.specs.Nodes.{node}
+use Rattle.grid.specs.declared.Header.{Header}
+
+-- `key=NUMBER`
+unfoldable pub line : (key : List ℕ) → ℤ → List ℕ
+line key x = key ++ spell x ++ bytes "\n"
+
+unfoldable pub headerText : Header → List ℕ
+headerText h =
+    bytes "from=NAD27\n"
+    ++ bytes "to=NAD83\n"
+    ++ line (bytes "south=") (h .south .0)
+    ++ line (bytes "west=") (h .west .0)
+    ++ line (bytes "dlat=") (h .dlat)
+    ++ line (bytes "dlon=") (h .dlon)
+    ++ line (bytes "rows=") (h .rows)
+    ++ line (bytes "cols=") (h .cols)
+
+-- `node=LAT,LON`
+unfoldable pub nodeLine : (lat lon : ℤ) → List ℕ
+nodeLine a b = bytes "node=" ++ spell a ++ bytes "," ++ spell b ++ bytes "\n"
+
+-- the lines of the first k nodes
+unfoldable pub nodeLines : (lat lon : List ℤ) → (k : ℕ) → List ℕ
+nodeLines lat lon zero = []
+nodeLines lat lon (suc k) = nodeLines lat lon k ++ nodeLine (node lat k) (node lon k)
+
+-- "`end=` and the number of nodes"
+unfoldable pub gridText : Header → (lat lon : List ℤ) → List ℕ
+gridText h lat lon = headerText h ++ nodeLines lat lon (nodeCount h) ++ line (bytes "end=") (pos (nodeCount h))

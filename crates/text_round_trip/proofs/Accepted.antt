@@ -1,0 +1,177 @@
+-- A text that is accepted is the text of the grid that was read, and that grid passes the checks.
+use Prim.Native.Nat.{ℕ, zero, suc, _+_, _≤_, _<_}
+use mathlib.Core.Path.{_≡_, refl, sym, ap, _∙_, subst}
+use mathlib.Core.Bool.{Bool, true, false, not, _||_}
+use mathlib.Core.List.{List, [], _∷_, _++_, append-assoc, append-nil}
+use native.Mathlib.Omega.{arith}
+use borrow.Author.Tests.{not-false}
+use lib.ListN.{length, length-append, List·getD-append}
+use lib.Seq.{getD-at}
+use lib.IntN.{ℤ, pos}
+use Rattle.laws.specs.Bytes.{bytes}
+use Rattle.laws.specs.Logic.{eqZ, eqZ-holds}
+use Rattle.figures.specs.Outcome.{Outcome, answered, refused, andThen, refuseIf}
+use Rattle.figures.proofs.Laws.{answer-not-refusal, both-answered, not-refused, same-answer}
+use Rattle.decimal.specs.Spelling.{spell, Short}
+use Rattle.grid.specs.Rules.{nodeCount}
+use Rattle.grid.specs.Nodes.{node, beyondRange}
+use Rattle.grid.specs.Check.{layout, verdict, Passes}
+use Rattle.grid.specs.declared.Header.{Header}
+use Rattle.grid_text.specs.Text.{line, headerText, nodeLine, nodeLines, gridText}
+use Rattle.grid_reader.specs.Reading.{Grid, fixed, word, field, newline, comma, nothing, header, ending, nodes, reading}
+use Rattle.text_round_trip.proofs.Parsing.{fixed-there, word-there}
+
+-- ---- the lines of the nodes
+
+-- the lines of the first k nodes are told by the first k nodes
+pub lines-front : (xs ys us vs : List ℤ) (k : ℕ) → k ≤ length xs → k ≤ length ys → nodeLines (xs ++ us) (ys ++ vs) k ≡ nodeLines xs ys k
+unfolding nodeLines
+lines-front xs ys us vs zero l m = refl
+lines-front xs ys us vs (suc k) l m =
+    rw (lines-front xs ys us vs k (omega arith) (omega arith), List·getD-append xs us (pos 0) k (omega arith), List·getD-append ys vs (pos 0) k (omega arith))
+
+lines-more : (xs ys : List ℤ) (a b : ℤ) (k : ℕ) → length xs ≡ k → length ys ≡ k → nodeLines (xs ++ (a ∷ [])) (ys ++ (b ∷ [])) (suc k) ≡ nodeLines xs ys k ++ nodeLine a b
+unfolding nodeLines
+lines-more xs ys a b k e f =
+    rw (lines-front xs ys (a ∷ []) (b ∷ []) k (omega (arith, e)) (omega (arith, f)), getD-at xs a [] (pos 0) k e, getD-at ys b [] (pos 0) k f)
+
+-- ---- a key and a number
+
+regroup : (a b c d : List ℕ) → a ++ (b ++ (c ++ d)) ≡ (a ++ b ++ c) ++ d
+regroup a b c d = simp append-assoc
+
+module _ {A : Type 0} {g : A} where
+  field-there : (n stop : ℕ) (key t : List ℕ) (next : ℤ → List ℕ → Outcome A) → field n stop key t next ≡ answered g
+      → (x : ℤ) × (u : List ℕ) × (t ≡ key ++ (spell x ++ (stop ∷ u))) × (next x u ≡ answered g)
+  field-there n stop key t next e =
+      let f = fixed-there n key t (λ v. word n stop [] v next) e in
+      let w = word-there n stop [] (f .0) next (f .2) in
+      (w .0, w .1, f .1 ∙ ap (λ (q : List ℕ). key ++ q) (w .2), w .4)
+
+  line-there : (n : ℕ) (key t : List ℕ) (next : ℤ → List ℕ → Outcome A) → field n newline key t next ≡ answered g
+      → (x : ℤ) × (u : List ℕ) × (t ≡ line key x ++ u) × (next x u ≡ answered g)
+  unfolding line
+  line-there n key t next e =
+      let f = field-there n newline key t next e in
+      (f .0, f .1, f .2 ∙ regroup key (spell (f .0)) (bytes "\n") (f .1), f .3)
+
+-- ---- a grid
+
+pub record Accepted (text : List ℕ) (g : Grid) : Type 0 where
+  pub same : text ≡ gridText (g .header) (g .lat) (g .lon)
+  pub passes : Passes (g .header) (g .lat) (g .lon)
+  pub lats : length (g .lat) ≡ nodeCount (g .header)
+  pub lons : length (g .lon) ≡ nodeCount (g .header)
+
+nothing-there : {A : Type 0} {g : A} (n : ℕ) (t : List ℕ) (o : Outcome A) → nothing n t o ≡ answered g → (t ≡ []) × (o ≡ answered g)
+nothing-there n [] o e = (refl, e)
+nothing-there n (b ∷ t) o e = absurd (answer-not-refusal (sym e))
+
+longer : (xs : List ℤ) (a : ℤ) {k : ℕ} → length xs ≡ k → length (xs ++ (a ∷ [])) ≡ suc k
+longer xs a e = length-append xs (a ∷ []) ∙ omega (arith, e)
+
+pub node-text : (a b : ℤ) (u : List ℕ) → bytes "node=" ++ (spell a ++ (comma ∷ (spell b ++ (newline ∷ u)))) ≡ nodeLine a b ++ u
+unfolding nodeLine
+node-text a b u = go (bytes "node=") (spell a) (bytes ",") (spell b) (bytes "\n")
+  where
+    go : (p q r s t : List ℕ) → p ++ (q ++ (r ++ (s ++ (t ++ u)))) ≡ (p ++ q ++ r ++ s ++ t) ++ u
+    go p q r s t = simp append-assoc
+
+module _ (h : Header) where
+  -- what was read of the nodes, and the rest of the text
+  abbrev Rest : (k : ℕ) (xs ys : List ℤ) → List ℕ → Grid → Type 0
+  Rest k xs ys t g =
+      (g .header ≡ h) × (nodeLines xs ys k ++ t ≡ nodeLines (g .lat) (g .lon) (nodeCount h) ++ line (bytes "end=") (pos (nodeCount h)))
+      × Passes h (g .lat) (g .lon) × (length (g .lat) ≡ nodeCount h) × (length (g .lon) ≡ nodeCount h)
+
+  end-there : (xs ys : List ℤ) (t : List ℕ) (g : Grid) → length xs ≡ nodeCount h → length ys ≡ nodeCount h → ending h xs ys t ≡ answered g → Rest (nodeCount h) xs ys t g
+  unfolding ending
+  end-there xs ys t g lx ly e =
+      let n = nodeCount h in
+      let grid : Grid = record { header = h; lat = xs; lon = ys } in
+      let f = line-there (9 + n) (bytes "end=") t
+      (λ count u. refuseIf (not (eqZ count (pos n))) 1 (9 + n) (nothing (10 + n) u (andThen (verdict h xs ys) (answered grid)))) e in
+      let r = not-refused (not (eqZ (f .0) (pos n))) 1 (9 + n) (nothing (10 + n) (f .1) (andThen (verdict h xs ys) (answered grid))) (f .3) in
+      let c : f .0 ≡ pos n = eqZ-holds (not-false (eqZ (f .0) (pos n)) (r .0)) in
+      let o = nothing-there (10 + n) (f .1) (andThen (verdict h xs ys) (answered grid)) (r .1) in
+      let v = both-answered (verdict h xs ys) (answered grid) (o .1) in
+      let t-is : t ≡ line (bytes "end=") (pos n) = f .2 ∙ (λ i. line (bytes "end=") (c i) ++ o .0 i) ∙ append-nil (line (bytes "end=") (pos n)) in
+      subst (λ (q : Grid). Rest (nodeCount h) xs ys t q) (same-answer (v .1)) (refl, ap (λ (q : List ℕ). nodeLines xs ys n ++ q) t-is, v .0 .1, lx, ly)
+
+  nodes-there : (left k : ℕ) (xs ys : List ℤ) (t : List ℕ) (g : Grid) → k + left ≡ nodeCount h → length xs ≡ k → length ys ≡ k
+      → nodes h left k xs ys t ≡ answered g → Rest k xs ys t g
+  unfolding nodes
+  nodes-there zero k xs ys t g s lx ly e =
+      let q : k ≡ nodeCount h = omega arith in
+      subst (λ (j : ℕ). Rest j xs ys t g) (sym q) (end-there xs ys t g (lx ∙ q) (ly ∙ q) e)
+  nodes-there (suc left) k xs ys t g s lx ly e =
+      let f = field-there (9 + k) comma (bytes "node=") t
+      (λ a u. word (9 + k) newline [] u (λ b v. refuseIf (beyondRange a || beyondRange b) 3 k (nodes h left (suc k) (xs ++ (a ∷ [])) (ys ++ (b ∷ [])) v))) e in
+      let w = word-there (9 + k) newline [] (f .1)
+      (λ b v. refuseIf (beyondRange (f .0) || beyondRange b) 3 k (nodes h left (suc k) (xs ++ (f .0 ∷ [])) (ys ++ (b ∷ [])) v)) (f .3) in
+      let a = f .0 in
+      let b = w .0 in
+      let u = w .1 in
+      let j = not-refused (beyondRange a || beyondRange b) 3 k (nodes h left (suc k) (xs ++ (a ∷ [])) (ys ++ (b ∷ [])) u) (w .4) in
+      let r = nodes-there left (suc k) (xs ++ (a ∷ [])) (ys ++ (b ∷ [])) u g (omega arith) (longer xs a lx) (longer ys b ly) (j .1) in
+      let l : nodeLines xs ys k ++ t ≡ nodeLines (xs ++ (a ∷ [])) (ys ++ (b ∷ [])) (suc k) ++ u =
+      ap (λ (q : List ℕ). nodeLines xs ys k ++ q) (f .2 ∙ ap (λ (q : List ℕ). bytes "node=" ++ (spell a ++ (comma ∷ q))) (w .2) ∙ node-text a b u)
+      ∙ sym (append-assoc (nodeLines xs ys k) (nodeLine a b) u)
+      ∙ ap (λ (q : List ℕ). q ++ u) (sym (lines-more xs ys a b k lx ly)) in
+      (r .0, l ∙ r .1, r .2, r .3, r .4)
+
+-- ---- the header
+
+eight : (a b c d e f g h t : List ℕ) → a ++ (b ++ (c ++ (d ++ (e ++ (f ++ (g ++ (h ++ t))))))) ≡ (a ++ b ++ c ++ d ++ e ++ f ++ g ++ h) ++ t
+eight a b c d e f g h t = simp append-assoc
+
+pub header-text : (h : Header) (t : List ℕ)
+    → bytes "from=NAD27\n" ++ (bytes "to=NAD83\n" ++ (line (bytes "south=") (h .south .0) ++ (line (bytes "west=") (h .west .0) ++ (line (bytes "dlat=") (h .dlat)
+    ++ (line (bytes "dlon=") (h .dlon) ++ (line (bytes "rows=") (h .rows) ++ (line (bytes "cols=") (h .cols) ++ t)))))))
+    ≡ headerText h ++ t
+unfolding headerText
+header-text h t =
+    eight (bytes "from=NAD27\n") (bytes "to=NAD83\n") (line (bytes "south=") (h .south .0)) (line (bytes "west=") (h .west .0)) (line (bytes "dlat=") (h .dlat))
+    (line (bytes "dlon=") (h .dlon)) (line (bytes "rows=") (h .rows)) (line (bytes "cols=") (h .cols)) t
+
+zero-left : (n : ℕ) → 0 + n ≡ n
+zero-left n = omega arith
+
+whole : (h : Header) (text rest : List ℕ) (g : Grid) → text ≡ headerText h ++ rest → Rest h 0 [] [] rest g → Accepted text g
+unfolding gridText nodeLines
+whole h text rest g e r =
+    record {
+      same =
+          e ∙ ap (λ (t : List ℕ). headerText h ++ t) (r .1)
+          ∙ sym (append-assoc (headerText h) (nodeLines (g .lat) (g .lon) (nodeCount h)) (line (bytes "end=") (pos (nodeCount h))))
+          ∙ ap (λ (k : Header). gridText k (g .lat) (g .lon)) (sym (r .0));
+      passes = subst (λ (k : Header). Passes k (g .lat) (g .lon)) (sym (r .0)) (r .2);
+      lats = r .3 ∙ ap nodeCount (sym (r .0));
+      lons = r .4 ∙ ap nodeCount (sym (r .0));
+    }
+
+pub accepted : (text : List ℕ) (lat lon : List ℤ) (g : Grid) → reading text lat lon ≡ answered g → Accepted text g
+unfolding reading
+accepted text lat lon g e =
+    let l₁ = fixed-there 1 (bytes "from=NAD27\n") text _ e in
+    let l₂ = fixed-there 2 (bytes "to=NAD83\n") (l₁ .0) _ (l₁ .2) in
+    let l₃ = line-there 3 (bytes "south=") (l₂ .0) _ (l₂ .2) in
+    let l₄ = line-there 4 (bytes "west=") (l₃ .1) _ (l₃ .3) in
+    let l₅ = line-there 5 (bytes "dlat=") (l₄ .1) _ (l₄ .3) in
+    let l₆ = line-there 6 (bytes "dlon=") (l₅ .1) _ (l₅ .3) in
+    let l₇ = line-there 7 (bytes "rows=") (l₆ .1) _ (l₆ .3) in
+    let l₈ = line-there 8 (bytes "cols=") (l₇ .1) _ (l₇ .3) in
+    let h = header (l₃ .0) (l₄ .0) (l₅ .0) (l₆ .0) (l₇ .0) (l₈ .0) in
+    let b = both-answered (layout h lat lon) (nodes h (nodeCount h) 0 [] [] (l₈ .1)) (l₈ .3) in
+    let r = nodes-there h (nodeCount h) 0 [] [] (l₈ .1) g (zero-left (nodeCount h)) refl refl (b .1) in
+    let t-is : text ≡ headerText h ++ (l₈ .1) =
+    l₁ .1
+    ∙ ap (λ (t : List ℕ). bytes "from=NAD27\n" ++ t)
+    (l₂ .1 ∙ ap (λ (t : List ℕ). bytes "to=NAD83\n" ++ t)
+    (l₃ .2 ∙ ap (λ (t : List ℕ). line (bytes "south=") (l₃ .0) ++ t)
+    (l₄ .2 ∙ ap (λ (t : List ℕ). line (bytes "west=") (l₄ .0) ++ t)
+    (l₅ .2 ∙ ap (λ (t : List ℕ). line (bytes "dlat=") (l₅ .0) ++ t)
+    (l₆ .2 ∙ ap (λ (t : List ℕ). line (bytes "dlon=") (l₆ .0) ++ t)
+    (l₇ .2 ∙ ap (λ (t : List ℕ). line (bytes "rows=") (l₇ .0) ++ t) (l₈ .2)))))))
+    ∙ header-text h (l₈ .1) in
+    whole h text (l₈ .1) g t-is r

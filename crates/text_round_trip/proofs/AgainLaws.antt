@@ -1,0 +1,155 @@
+-- The two returns of text: each answer of the code is the one that the definitions name.
+use Prim.Native.Nat.{ℕ, _≤_, _<_}
+use mathlib.Core.Path.{_≡_, refl, sym, ap, _∙_, subst}
+use mathlib.Core.Bool.{Bool, true, false, _||_}
+use mathlib.Core.List.{List, [], _∷_, _++_}
+use native.Mathlib.Omega.{arith}
+use borrow.Author.Tests.{le-ltb}
+use lib.Dec.{ltb}
+use lib.ListN.{length, take, drop, length-append, length-take}
+use lib.Seq.{take-at}
+use lib.IntN.{ℤ, pos}
+use Rattle.laws.specs.Bytes.{bytes}
+use Rattle.figures.specs.Outcome.{Outcome, answered, refused, andThen, refuseIf, mapAnswer}
+use Rattle.figures.proofs.Laws.{answer-not-refusal, same-answer, both-answered}
+use Rattle.decimal.specs.Spelling.{over}
+use Rattle.grid.specs.Rules.{nodeCount, brokenRule, shape}
+use Rattle.grid.specs.Check.{layout, verdict, Passes}
+use Rattle.grid.specs.declared.Header.{Header}
+use Rattle.grid.proofs.Passing.{good}
+use Rattle.grid.proofs.Front.{front-passes}
+use Rattle.grid_text.specs.Text.{headerText, nodeLines, line, gridText}
+use Rattle.grid_text.specs.Writing.{writing, roomAfter}
+use Rattle.grid_text.proofs.Lengths.{text-length}
+use Rattle.grid_reader.specs.Reading.{Grid, headerOf, reading, latAfter, lonAfter}
+use Rattle.text_round_trip.specs.Again.{scratch, textAgain, gridAgain, nodesAgain}
+use Rattle.text_round_trip.proofs.Accepted.{Accepted, accepted, lines-front}
+use Rattle.text_round_trip.proofs.ReadBack.{read-back}
+
+-- ---- an outcome that the code answers
+
+refused-map : {A B : Type 0} (f : A → B) (o : Outcome A) {n k : ℕ} → refused n k ≡ mapAnswer f o → o ≡ refused n k
+refused-map f (answered a) e = absurd (answer-not-refusal (sym e))
+refused-map f (refused m j) e = cc
+
+answered-map : {A B : Type 0} (f : A → B) (o : Outcome A) {b : B} → answered b ≡ mapAnswer f o → (a : A) × (o ≡ answered a) × (f a ≡ b)
+answered-map f (answered a) e = (a, refl, sym (same-answer e))
+answered-map f (refused m j) e = absurd (answer-not-refusal e)
+
+same-refusal : {A B : Type 0} {n k m j : ℕ} → _≡_ {A = Outcome A} (refused n k) (refused m j) → _≡_ {A = Outcome B} (refused n k) (refused m j)
+same-refusal {n} {k} {m} {j} e =
+    let p : n ≡ m = cc in
+    let q : k ≡ j = cc in
+    λ i. refused (p i) (q i)
+
+-- ---- a text, read and written again
+
+module _ (text room : List ℕ) where
+  pub text-refused : {n k : ℕ} → refused n k ≡ mapAnswer headerOf (reading text scratch scratch)
+      → (refused n k ≡ textAgain text room) × (room ≡ roomAfter (refused n k) text room)
+  unfolding textAgain roomAfter
+  text-refused e = (rw (refused-map headerOf (reading text scratch scratch) e), refl)
+
+  -- the grid that was read stands at the front of two lists, and its text is the text that was read
+  again : (g : Grid) (z w : List ℤ) → Accepted text g → Passes (g .header) (over (g .lat) z) (over (g .lon) w) × (gridText (g .header) (over (g .lat) z) (over (g .lon) w) ≡ text)
+  unfolding over gridText
+  again g z w a =
+      let h = g .header in
+      let x = over (g .lat) z in
+      let y = over (g .lon) w in
+      let p : take (nodeCount h) x ≡ g .lat = take-at (g .lat) (drop (length (g .lat)) z) (nodeCount h) (a .lats) in
+      let q : take (nodeCount h) y ≡ g .lon = take-at (g .lon) (drop (length (g .lon)) w) (nodeCount h) (a .lons) in (
+        front-passes h x y ((λ i. verdict h (p i) (q i)) ∙ a .passes),
+        ap (λ (t : List ℕ). (headerText h ++ t) ++ line (bytes "end=") (pos (nodeCount h)))
+            (lines-front (g .lat) (g .lon) (drop (length (g .lat)) z) (drop (length (g .lon)) w) (nodeCount h) (omega (arith, a .lats)) (omega (arith, a .lons)))
+            ∙ sym (a .same),
+      )
+
+  module _ {h : Header} {lat lon : List ℤ} {o : Outcome ℕ} {after : List ℕ} (e : answered h ≡ mapAnswer headerOf (reading text scratch scratch))
+      (p : lat ≡ latAfter (reading text scratch scratch) scratch) (q : lon ≡ lonAfter (reading text scratch scratch) scratch)
+      (w : o ≡ writing h lat lon room) (v : after ≡ roomAfter o (gridText h lat lon) room) where
+    pub text-again : (o ≡ textAgain text room) × (after ≡ roomAfter o text room)
+    unfolding textAgain writing latAfter lonAfter
+    text-again =
+        let r = answered-map headerOf (reading text scratch scratch) e in
+        let x : lat ≡ over (r .0 .lat) scratch = p ∙ ap (λ (k : Outcome Grid). latAfter k scratch) (r .1) in
+        let y : lon ≡ over (r .0 .lon) scratch = q ∙ ap (λ (k : Outcome Grid). lonAfter k scratch) (r .1) in
+        let b = again (r .0) scratch scratch (accepted text scratch scratch (r .0) (r .1)) in (
+          w ∙ (λ i. writing (sym (r .2) i) (x i) (y i) room) ∙ rw (b .0, b .1, r .1),
+          v ∙ ap (λ (t : List ℕ). roomAfter o t room) ((λ i. gridText (sym (r .2) i) (x i) (y i)) ∙ b .1),
+        )
+
+-- ---- a grid, written and read again
+
+module _ (h : Header) (lat lon : List ℤ) where
+  abbrev text : List ℕ
+  text = gridText h lat lon
+
+  -- a room of 48,000 bytes is enough
+  module _ (room : List ℕ) (long : length room ≡ 48000) where
+    fits : Passes h lat lon → writing h lat lon room ≡ answered (length text)
+    unfolding writing
+    fits p = rw (p, le-ltb (length room) (length text) (omega (arith, text-length h lat lon p)))
+
+    written : {n : ℕ} → answered n ≡ writing h lat lon room → Passes h lat lon × (n ≡ length text)
+    unfolding writing
+    written e =
+        let p = both-answered (verdict h lat lon) (refuseIf (ltb (length room) (length text)) 8 (length text) (answered (length text))) (sym e) .0 .1 in
+        (p, same-answer (e ∙ fits p))
+
+    pub grid-refused : {n k : ℕ} (lats lons : List ℤ) → refused n k ≡ writing h lat lon room
+        → (refused n k ≡ gridAgain h lat lon lats lons) × ((lats ≡ nodesAgain (refused n k) lat lats) × (lons ≡ nodesAgain (refused n k) lon lons))
+    unfolding gridAgain nodesAgain writing
+    grid-refused {n} {k} lats lons e = (go (verdict h lat lon) refl e, (refl, refl))
+      where
+        go : (o : Outcome Unit) → verdict h lat lon ≡ o → refused n k ≡ writing h lat lon room → refused n k ≡ gridAgain h lat lon lats lons
+        go (answered tt) q e = absurd (answer-not-refusal (sym (e ∙ fits q)))
+        go (refused m j) q e = rw q (same-refusal (e ∙ rw q))
+
+    -- what the reader is lent
+    module _ {n : ℕ} {after : List ℕ} {w : Outcome ℕ} (f : w ≡ answered n) (e : w ≡ writing h lat lon room) (v : after ≡ roomAfter w text room) where
+      wrote : Passes h lat lon × (n ≡ length text)
+      wrote = written (sym f ∙ e)
+
+      stands : after ≡ over text room
+      unfolding roomAfter
+      stands = v ∙ ap (λ (k : Outcome ℕ). roomAfter k text room) f
+
+      pub lent : n ≤ length after
+      unfolding over
+      lent = omega (arith, ap length stands, length-append text (drop (length text) room), wrote .1)
+
+      pub lent-text : take n after ≡ text
+      unfolding over
+      lent-text = ap (take n) stands ∙ take-at text (drop (length text) room) n (sym (wrote .1))
+
+      pub grid-again : (lats lons : List ℤ) {r : Outcome Header} {lats′ lons′ : List ℤ}
+          → r ≡ mapAnswer headerOf (reading (take n after) lats lons)
+          → lats′ ≡ latAfter (reading (take n after) lats lons) lats → lons′ ≡ lonAfter (reading (take n after) lats lons) lons
+          → (r ≡ gridAgain h lat lon lats lons) × ((lats′ ≡ nodesAgain r lat lats) × (lons′ ≡ nodesAgain r lon lons))
+      unfolding gridAgain nodesAgain latAfter lonAfter layout
+      grid-again lats lons {r} {lats′} {lons′} x y z = go (ltb (length lats) (nodeCount h) || ltb (length lons) (nodeCount h)) refl
+        where
+          p : Passes h lat lon
+          p = wrote .0
+
+          o : Outcome Grid
+          o = reading (take n after) lats lons
+
+          read : o ≡ andThen (layout h lats lons) (answered (record { header = h; lat = take (nodeCount h) lat; lon = take (nodeCount h) lon }))
+          read = ap (λ (t : List ℕ). reading t lats lons) lent-text ∙ read-back h lat lon p lats lons
+
+          go : (d : Bool) → (ltb (length lats) (nodeCount h) || ltb (length lons) (nodeCount h)) ≡ d
+              → (r ≡ gridAgain h lat lon lats lons) × ((lats′ ≡ nodesAgain r lat lats) × (lons′ ≡ nodesAgain r lon lons))
+          go true q =
+              let f : o ≡ refused 5 (nodeCount h) = read ∙ rw (good h lat lon p .unbroken, q) in
+              let g : r ≡ refused 5 (nodeCount h) = x ∙ ap (mapAnswer headerOf) f in (
+                g ∙ rw (p, q),
+                (y ∙ ap (λ k. latAfter k lats) f ∙ ap (λ k. nodesAgain k lat lats) (sym g), z ∙ ap (λ k. lonAfter k lons) f ∙ ap (λ k. nodesAgain k lon lons) (sym g)),
+              )
+          go false q =
+              let f : o ≡ answered (record { header = h; lat = take (nodeCount h) lat; lon = take (nodeCount h) lon }) = read ∙ rw (good h lat lon p .unbroken, q) in
+              let g : r ≡ answered h = x ∙ ap (mapAnswer headerOf) f in (
+                g ∙ rw (p, q),
+                (y ∙ ap (λ k. latAfter k lats) f ∙ ap (λ k. nodesAgain k lat lats) (sym g), z ∙ ap (λ k. lonAfter k lons) f ∙ ap (λ k. nodesAgain k lon lons) (sym g)),
+              )

@@ -1,0 +1,5 @@
+pub mod Parsing
+pub mod Accepted
+pub mod ReadBack
+pub mod AgainLaws
+pub mod Demands

@@ -1,0 +1,120 @@
+-- The text of a grid that passes the checks is accepted, and gives that grid.
+use Prim.Native.Nat.{ℕ, zero, suc, _+_, _^_, _≤_, _<_}
+use mathlib.Core.Path.{_≡_, refl, sym, ap, _∙_, subst}
+use mathlib.Core.Bool.{false, not, _||_}
+use mathlib.Core.List.{List, [], _∷_, _++_, append-assoc, append-nil}
+use native.Mathlib.Omega.{arith}
+use lib.ListN.{length, take}
+use lib.Seq.{take-suc}
+use lib.IntN.{ℤ, pos, natAbs}
+use Rattle.laws.specs.Bytes.{bytes}
+use Rattle.laws.specs.Parts.{Within, ints, abs-parts, parts-disjoint}
+use Rattle.laws.specs.Bounds.{own-size, widen}
+use Rattle.laws.specs.Logic.{eqZ, eqZ-true}
+use Rattle.figures.specs.Outcome.{Outcome, answered, andThen, refuseIf}
+use Rattle.decimal.specs.Spelling.{spell, Short}
+use Rattle.grid.specs.Rules.{minus, nodeCount, brokenRule, shape}
+use Rattle.grid.specs.Nodes.{node, beyondRange}
+use Rattle.grid.specs.Check.{layout, verdict, Passes}
+use Rattle.grid.specs.declared.Header.{Header}
+use Rattle.grid.proofs.RuleLaws.{Between, between-within, extent}
+use Rattle.grid.proofs.NodeLaws.{not-beyond}
+use Rattle.grid.proofs.Passing.{Good, good, laid}
+use Rattle.grid.proofs.Front.{passes-front}
+use Rattle.grid_text.specs.Text.{line, headerText, nodeLine, nodeLines, gridText}
+use Rattle.grid_reader.specs.Reading.{Grid, fixed, word, field, newline, comma, nothing, header, ending, nodes, reading}
+use Rattle.text_round_trip.proofs.Parsing.{fixed-here, word-here}
+use Rattle.text_round_trip.proofs.Accepted.{node-text, header-text}
+
+-- ---- numbers of a grid that passes are short enough to be written
+
+within-short : (K : ℕ) {x : ℤ} → Within K x → K < 10 ^ 11 → Short x
+within-short K {x} w l = omega (arith, ints, abs-parts x, parts-disjoint x)
+
+between-short : {lo x hi : ℤ} (K : ℕ) → Between lo x hi → Within K lo → Within K hi → K < 10 ^ 11 → Short x
+between-short K b l h s = within-short K (between-within K b l h) s
+
+-- ---- a key and a number
+
+module _ {A : Type 0} where
+  field-here : (n stop : ℕ) (key t : List ℕ) (x : ℤ) (next : ℤ → List ℕ → Outcome A) → Short x → stop < 45
+      → field n stop key (key ++ (spell x ++ (stop ∷ t))) next ≡ next x t
+  field-here n stop key t x next s l = fixed-here n key (spell x ++ (stop ∷ t)) (λ v. word n stop [] v next) ∙ word-here n stop next x s l t
+
+  line-here : (n : ℕ) (key t : List ℕ) (x : ℤ) (next : ℤ → List ℕ → Outcome A) → Short x → field n newline key (line key x ++ t) next ≡ next x t
+  unfolding line
+  line-here n key t x next s =
+      ap (λ (q : List ℕ). field n newline key q next) (regroup key (spell x) (bytes "\n"))
+      ∙ field-here n newline key t x next s (omega arith)
+    where
+      regroup : (a b c : List ℕ) → (a ++ b ++ c) ++ t ≡ a ++ (b ++ (c ++ t))
+      regroup a b c = simp append-assoc
+
+-- ---- the nodes
+
+module _ (h : Header) (lat lon : List ℤ) (p : Passes h lat lon) where
+  abbrev n : ℕ
+  n = nodeCount h
+
+  checked : Good h lat lon
+  checked = good h lat lon p
+
+  roomy : (n ≤ length lat) × (n ≤ length lon)
+  roomy = let l = laid h lat lon (checked .laid-out) in (l .room-lat, l .room-lon)
+
+  node-here : (left k : ℕ) (t : List ℕ) → k < n
+      → nodes h (suc left) k (take k lat) (take k lon) (nodeLine (node lat k) (node lon k) ++ t) ≡ nodes h left (suc k) (take (suc k) lat) (take (suc k) lon) t
+  unfolding nodes
+  node-here left k t l =
+      ap (λ (q : List ℕ). field (9 + k) comma (bytes "node=") q next) (sym (node-text (node lat k) (node lon k) t))
+      ∙ field-here (9 + k) comma (bytes "node=") (spell (node lon k) ++ (newline ∷ t)) (node lat k) next (within-short 6000000 of-lat (omega arith)) (omega arith)
+      ∙ word-here (9 + k) newline (λ b u. refuseIf (beyondRange (node lat k) || beyondRange b) 3 k (nodes h left (suc k) (take k lat ++ (node lat k ∷ [])) (take k lon ++ (b ∷ [])) u))
+      (node lon k) (within-short 6000000 of-lon (omega arith)) (omega arith) t
+      ∙ rw (not-beyond of-lat, not-beyond of-lon, take-suc lat k (pos 0) (omega (arith, roomy)), take-suc lon k (pos 0) (omega (arith, roomy)))
+    where
+      of-lat : Within 6000000 (node lat k)
+      of-lat = checked .of-lat .ranged .range k l
+
+      of-lon : Within 6000000 (node lon k)
+      of-lon = checked .of-lon .ranged .range k l
+
+      next : ℤ → List ℕ → Outcome Grid
+      next a u = word (9 + k) newline [] u (λ b v. refuseIf (beyondRange a || beyondRange b) 3 k (nodes h left (suc k) (take k lat ++ (a ∷ [])) (take k lon ++ (b ∷ [])) v))
+
+  nodes-here : (k left : ℕ) → k + left ≡ n → (t : List ℕ) → nodes h n 0 [] [] (nodeLines lat lon k ++ t) ≡ nodes h left k (take k lat) (take k lon) t
+  unfolding nodeLines
+  nodes-here zero left e t = ap (λ (j : ℕ). nodes h j 0 [] [] t) (omega arith)
+  nodes-here (suc k) left e t =
+      ap (nodes h n 0 [] []) (append-assoc (nodeLines lat lon k) (nodeLine (node lat k) (node lon k)) t)
+      ∙ nodes-here k (suc left) (omega arith) (nodeLine (node lat k) (node lon k) ++ t)
+      ∙ node-here left k t (omega arith)
+
+  end-here : nodes h 0 n (take n lat) (take n lon) (line (bytes "end=") (pos n)) ≡ answered (record { header = h; lat = take n lat; lon = take n lon })
+  unfolding nodes ending
+  end-here =
+      ap (λ (q : List ℕ). field (9 + n) newline (bytes "end=") q next) (sym (append-nil (line (bytes "end=") (pos n))))
+      ∙ line-here (9 + n) (bytes "end=") [] (pos n) next (omega (arith, extent (checked .header) .nodes))
+      ∙ rw (eqZ-true {a = pos n} refl, passes-front h lat lon p)
+    where
+      grid : Grid
+      grid = record { header = h; lat = take n lat; lon = take n lon }
+
+      next : ℤ → List ℕ → Outcome Grid
+      next count u = refuseIf (not (eqZ count (pos n))) 1 (9 + n) (nothing (10 + n) u (andThen (verdict h (take n lat) (take n lon)) (answered grid)))
+
+  -- the text of the grid, read into any two slices: the grid, where they have room for its nodes
+  pub read-back : (lats lons : List ℤ) → reading (gridText h lat lon) lats lons ≡ andThen (layout h lats lons) (answered (record { header = h; lat = take n lat; lon = take n lon }))
+  unfolding reading gridText
+  read-back lats lons =
+      let k = checked .header in
+      let t = nodeLines lat lon n ++ line (bytes "end=") (pos n) in
+      ap (λ (q : List ℕ). reading q lats lons) (append-assoc (headerText h) (nodeLines lat lon n) (line (bytes "end=") (pos n)) ∙ sym (header-text h t))
+      ∙ fixed-here 1 (bytes "from=NAD27\n") _ _
+      ∙ fixed-here 2 (bytes "to=NAD83\n") _ _
+      ∙ line-here 3 (bytes "south=") _ (h .south .0) _ (between-short 323940000 (k .south) (own-size (minus 323940000)) (own-size (pos 323940000)) (omega arith))
+      ∙ line-here 4 (bytes "west=") _ (h .west .0) _ (between-short 647940000 (k .west) (own-size (minus 647940000)) (own-size (pos 647940000)) (omega arith))
+      ∙ line-here 5 (bytes "dlat=") _ (h .dlat) _ (between-short 900000 (k .dlat) (widen (own-size (pos 1000)) tt) (own-size (pos 900000)) (omega arith))
+      ∙ line-here 6 (bytes "dlon=") _ (h .dlon) _ (between-short 900000 (k .dlon) (widen (own-size (pos 1000)) tt) (own-size (pos 900000)) (omega arith))
+      ∙ line-here 7 (bytes "rows=") _ (h .rows) _ (between-short 256 (k .rows) (widen (own-size (pos 2)) tt) (own-size (pos 256)) (omega arith))
+      ∙ line-here 8 (bytes "cols=") t (h .cols) _ (between-short 256 (k .cols) (widen (own-size (pos 2)) tt) (own-size (pos 256)) (omega arith))
+      ∙ ap (andThen (layout h lats lons)) (nodes-here n 0 (omega arith) (line (bytes "end=") (pos n)) ∙ end-here)

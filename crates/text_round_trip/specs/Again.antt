@@ -1,0 +1,34 @@
+-- Demand 2's two returns: "A sheet text that is accepted, read and written again is the same text. A sheet that passes the checks,
+-- written and read again, is the same sheet."
+use Prim.Native.Nat.{ℕ}
+use mathlib.Core.Bool.{_||_}
+use mathlib.Core.List.{List}
+use lib.Dec.{ltb}
+use lib.ListN.{length, take, replicate}
+use lib.IntN.{ℤ, pos}
+use Rattle.figures.specs.Outcome.{Outcome, answered, refused, andThen, refuseIf}
+use Rattle.decimal.specs.Spelling.{over}
+use Rattle.grid.specs.Rules.{nodeCount}
+use Rattle.grid.specs.Check.{verdict}
+use Rattle.grid.specs.declared.Header.{Header}
+use Rattle.grid_reader.specs.Reading.{reading}
+
+-- room for the nodes of every grid
+unfoldable pub scratch : List ℤ
+scratch = replicate 2048 (pos 0)
+
+-- a text that is refused is refused alike; one that is accepted is written again, as many bytes as it has
+unfoldable pub textAgain : (text room : List ℕ) → Outcome ℕ
+textAgain text room =
+    andThen (reading text scratch scratch) (refuseIf (ltb (length room) (length text)) 8 (length text) (answered (length text)))
+
+-- a grid that is refused is refused alike; one that passes comes back, where there is room for its nodes
+unfoldable pub gridAgain : Header → (lat lon latRoom lonRoom : List ℤ) → Outcome Header
+gridAgain h lat lon latRoom lonRoom =
+    let n = nodeCount h in
+    andThen (verdict h lat lon) (refuseIf (ltb (length latRoom) n || ltb (length lonRoom) n) 5 n (answered h))
+
+-- the same nodes stand at the front of a slice, or after a refusal what it held
+unfoldable pub nodesAgain : Outcome Header → (nodes slice : List ℤ) → List ℤ
+nodesAgain (answered h) nodes slice = over (take (nodeCount h) nodes) slice
+nodesAgain (refused n k) nodes slice = slice
