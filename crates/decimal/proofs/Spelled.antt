@@ -19,14 +19,14 @@ use Rattle.decimal.proofs.Grown.{by-cond, and-false, Good, good-none, p
 
 -- ---- a spelled number is pushed to its end
 
-first-digit : (negative : Bool) (d : ℕ) → d < 10 → (negative && eqb d 0) ≡ false
+pub first-digit : (negative : Bool) (d : ℕ) → d < 10 → (negative && eqb d 0) ≡ false
     → pushed (number false negative 0) (48 + d) ≡ Grown (number true negative d)
 unfolding pushed digitPushed
 first-digit negative d l s =
     let q : 48 + d - 48 ≡ d = omega arith in
     rw (is-digit (48 + d) (omega arith) (omega arith), q, s)
 
-more-digit : (negative : Bool) (m d : ℕ) → d < 10 → 0 < m → m ≤ 9999999999
+pub more-digit : (negative : Bool) (m d : ℕ) → d < 10 → 0 < m → m ≤ 9999999999
     → pushed (number true negative m) (48 + d) ≡ Grown (number true negative (m * 10 + d))
 unfolding pushed digitPushed
 more-digit negative m d l h g =

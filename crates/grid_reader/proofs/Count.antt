@@ -87,7 +87,7 @@ or-true : (p q : Bool) → q ≡ true → (p || q) ≡ true
 or-true true q e = refl
 or-true false q e = e
 
-split : {A B : Type 0} (p q : Bool) → (p ≡ true → A) → (q ≡ true → B) → (p || q) ≡ true → A ⊎ B
+pub split : {A B : Type 0} (p q : Bool) → (p ≡ true → A) → (q ≡ true → B) → (p || q) ≡ true → A ⊎ B
 split true q f g e = inl (f refl)
 split false q f g e = inr (g e)
 

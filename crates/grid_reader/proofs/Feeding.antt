@@ -57,7 +57,8 @@ fed-step : (room : ℕ) (s : Scan) (lat lon : List ℤ) (text : List ℕ) (i : �
 unfolding fed
 fed-step room s lat lon text i h = rw (add-one, drop-cons text i 0)
 
-fed-refused : (room : ℕ) (w : Refusal) (lat lon : List ℤ) (text : List ℕ) → fed room (Taken.Refused w) lat lon text ≡ record { out = Taken.Refused w; lat = lat; lon = lon }
+-- a refusal is final
+pub fed-refused : (room : ℕ) (w : Refusal) (lat lon : List ℤ) (text : List ℕ) → fed room (Taken.Refused w) lat lon text ≡ record { out = Taken.Refused w; lat = lat; lon = lon }
 unfolding fed
 fed-refused room w lat lon [] = refl
 fed-refused room w lat lon (b ∷ text) = refl

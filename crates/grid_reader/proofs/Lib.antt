@@ -7,3 +7,9 @@ pub mod Count
 pub mod LineByLine
 pub mod Endings
 pub mod Cuts
+pub mod FormLaws
+pub mod ReadSoFar
+pub mod NumberEnds
+pub mod SoFarLaws
+pub mod Open
+pub mod Hopeless

@@ -21,7 +21,6 @@ use Rattle.decimal.specs.Pushing.{none}
 use Rattle.decimal.specs.declared.Number.{Number}
 use Rattle.decimal.proofs.Grown.{good-none}
 use Rattle.grid.specs.Rules.{brokenRule, shape, nodeCount}
-use Rattle.grid.specs.Needs.{Extent}
 use Rattle.grid.specs.Nodes.{beyondRange}
 use Rattle.grid.specs.Check.{layout, verdict}
 use Rattle.grid.specs.declared.Header.{Header}
@@ -141,6 +140,12 @@ shorter a b n = go (ltb a n) refl (ltb b n) refl
     go false e true f = lt-ltb (min a b) n (omega (arith, ltb-true b n f))
     go false e false f = le-ltb (min a b) n (omega (arith, ltb-false a n e, ltb-false b n f))
 
+-- a header that breaks no rule has nodes, and not too many
+pub node-count : (h : Header) → brokenRule h ≡ 0 → (0 < nodeCount h) × (nodeCount h ≤ 2048)
+node-count h e =
+    let sizes = extent (rules-hold h e) in
+    (omega (arith, sizes .rows-low, sizes .cols-low, mul-le-mul-right (shape h .cols) (sizes .rows-low)), sizes .nodes)
+
 module _ (lat lon lats lons : List ℤ) (roomy-z : 2048 ≤ length lats) (roomy-w : 2048 ≤ length lons) where
   abbrev room : ℕ
   room = min (length lat) (length lon)
@@ -153,17 +158,11 @@ module _ (lat lon lats lons : List ℤ) (roomy-z : 2048 ≤ length lats) (roomy-
   unfolding over
   first-node h e t = go (nodeCount h) refl
     where
-      sizes : Extent (shape h)
-      sizes = extent (rules-hold h e)
-
-      some-nodes : 0 < nodeCount h
-      some-nodes = omega (arith, sizes .rows-low, sizes .cols-low, mul-le-mul-right (shape h .cols) (sizes .rows-low))
-
       go : (n : ℕ) → nodeCount h ≡ n → readFrom room (scan 63 none h (nodeCount h) 0 (pos 0)) lats lons t ≡ nodes h (nodeCount h) 0 [] [] t
-      go zero q = absurd (omega (arith, some-nodes))
+      go zero q = absurd (omega (arith, node-count h e))
       go (suc left) q =
           subst (λ (j : ℕ). readFrom room (scan 63 none h (nodeCount h) 0 (pos 0)) lats lons t ≡ nodes h j 0 [] [] t) (sym q)
-          (node-lines room h lats lons (sizes .nodes) some-nodes roomy-z roomy-w left 0 (pos 0) [] [] (omega (arith, q)) refl refl t)
+          (node-lines room h lats lons (node-count h e .1) (node-count h e .0) roomy-z roomy-w left 0 (pos 0) [] [] (omega (arith, q)) refl refl t)
 
   -- the eight lines are whole
   judged : (h : Header) (t : List ℕ) → onward room 0 lats lons (headerEnd room h) t ≡ andThen (layout h lat lon) (nodes h (nodeCount h) 0 [] [] t)
