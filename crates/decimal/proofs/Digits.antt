@@ -59,7 +59,7 @@ digits-snoc a d h g =
     let r : (a * 10 + d) % 10 ≡ d = omega arith in
     digits-more (a * 10 + d) (omega arith) ∙ rw (q, r)
 
-pub value-append : (a : ℕ) (x y : List ℕ) → valueFrom a (x ++ y) ≡ valueFrom (valueFrom a x) y
+value-append : (a : ℕ) (x y : List ℕ) → valueFrom a (x ++ y) ≡ valueFrom (valueFrom a x) y
 value-append a [] y = refl
 value-append a (d ∷ x) y = value-append (a * 10 + (d - 48)) x y
 

@@ -10,13 +10,13 @@ use borrow.Author.Tests.{le-leb, leb-true, ne-eqb, eqb-true, eqb-false, not-true
 use lib.ListN.{length, getD, List·getD-append}
 use lib.Dec.{leb, eqb}
 use lib.IntN.{ℤ, pos, negsuc}
-use Rattle.laws.specs.Logic.{both}
+use Rattle.laws.specs.Logic.{both, by-cond}
 use Rattle.decimal.specs.Spelling.{digits, spell, Short, isDigit, allDigits, valueFrom, isMagnitude, magnitudeIn, minus, plain, numberIn}
 use Rattle.decimal.specs.Pushing.{none, part, pushedAll}
 use Rattle.decimal.specs.declared.Number.{Number}
 use Rattle.decimal.proofs.Bytes.{is-digit, digit-range}
 use Rattle.decimal.proofs.Digits.{tens, digits-small, digits-more, digits-snoc, value-digits, digits-injective, length-digits, length-digits-pos}
-use Rattle.decimal.proofs.Grown.{by-cond, Good}
+use Rattle.decimal.proofs.Grown.{Good}
 use Rattle.decimal.proofs.Spelled.{part-pushed, pushed-spell, spell-pushed}
 
 -- ---- a spelling is of digits, and none but that of 0 begins with 0

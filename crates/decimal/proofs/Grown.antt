@@ -8,7 +8,7 @@ use native.Mathlib.Nat.{pos-of-ne-zero}
 use borrow.Author.Tests.{eqb-true, eqb-false, ltb-false, le-ltb, ne-eqb, not-true}
 use lib.Dec.{ltb, eqb}
 use lib.IntN.{pos}
-use Rattle.laws.specs.Logic.{both, neither}
+use Rattle.laws.specs.Logic.{both, neither, by-cond}
 use Rattle.decimal.specs.Spelling.{digits, sign, spell, Short, isDigit}
 use Rattle.decimal.specs.Pushing.{none, number, minusPushed, digitPushed, pushed, signed, valueOf, part}
 use Rattle.decimal.specs.declared.Number.{Number}
@@ -17,10 +17,6 @@ use Rattle.decimal.proofs.Bytes.{digit-range}
 use Rattle.decimal.proofs.Digits.{digits-small, digits-snoc}
 
 -- ---- tests, taken apart
-
-pub by-cond : {A P : Type 0} (p : Bool) {x y r : A} → cond p x y ≡ r → (p ≡ true → x ≡ r → P) → (p ≡ false → y ≡ r → P) → P
-by-cond true e f g = f refl e
-by-cond false e f g = g refl e
 
 pub and-false : (p : Bool) → (p && false) ≡ false
 and-false true = refl

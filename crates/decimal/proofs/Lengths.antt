@@ -3,7 +3,6 @@ use Prim.Native.Nat.{ℕ, suc, _+_, _^_, _≤_, _<_}
 use native.Mathlib.Omega.{arith}
 use lib.ListN.{length}
 use lib.IntN.{ℤ, pos, negsuc, natAbs}
-use lib.Signed.{_≤ℤ_}
 use mir.Syntax.{w64}
 use mir.Val.{SFits}
 use Rattle.laws.specs.Bounds.{within-fits}
@@ -15,11 +14,6 @@ pub length-spell : (x : ℤ) (k : ℕ) → 0 < k → natAbs x < 10 ^ k → lengt
 unfolding spell
 length-spell (pos n) k p h = omega (arith, length-digits n k h p)
 length-spell (negsuc n) k p h = omega (arith, length-digits (suc n) k h p)
-
-pub length-plain : (x : ℤ) (k : ℕ) → pos 0 ≤ℤ x → 0 < k → natAbs x < 10 ^ k → length (spell x) ≤ k
-unfolding spell
-length-plain (pos n) k g p h = length-digits n k h p
-length-plain (negsuc n) k g p h = absurd (g .le)
 
 -- an `i64`
 pub length-i64 : {x : ℤ} → SFits w64 x → length (spell x) ≤ 20

@@ -1,19 +1,18 @@
 -- The checks look at the first rows × cols elements of each slice alone.
-use Prim.Native.Nat.{ℕ, _+_, _*_, _%_, _≤_, _<_}
-use mathlib.Core.Path.{_≡_, refl, sym, ap, _∙_}
+use Prim.Native.Nat.{ℕ, _+_, _*_, _%_, _<_}
+use mathlib.Core.Path.{_≡_, refl, sym, _∙_}
 use mathlib.Core.Bool.{Bool, true, false, _&&_, _||_}
 use mathlib.Core.List.{List}
 use native.Mathlib.Omega.{arith}
 use borrow.Author.Tests.{ltb-true}
 use lib.Dec.{ltb}
-use lib.ListN.{length, take, length-take}
+use lib.ListN.{take, length-take}
 use lib.Seq.{getD-take, length-take-le}
 use lib.IntN.{ℤ, pos}
-use Rattle.laws.specs.First.{first, first-same}
-use Rattle.figures.specs.Outcome.{answered}
+use Rattle.laws.specs.First.{first-same}
 use Rattle.grid.specs.Rules.{shape, nodeCount}
 use Rattle.grid.specs.Nodes.{node, beyondRange, outOfRange, tooSteep, steepEast, steepNorth, steepNode, steepAt}
-use Rattle.grid.specs.Check.{nodesVerdict, verdict, Passes}
+use Rattle.grid.specs.Check.{steepness, nodesVerdict, verdict, Passes}
 use Rattle.grid.specs.declared.Header.{Header}
 use Rattle.grid.specs.declared.Shape.{Shape}
 use Rattle.grid.proofs.RuleLaws.{extent}
@@ -38,8 +37,8 @@ module _ (s : Shape) (some-cols : 0 < s .cols) where
       (λ e. let f = front S (k + 1) (east-in (s .rows) (s .cols) k some-cols l (ltb-true _ _ e)) in λ j. tooSteep (s .dlon) (front S k l j) (f j)) i
       || guarded (ltb (k + s .cols) n) (λ e. let f = front S (k + s .cols) (ltb-true _ _ e) in λ j. tooSteep (s .dlat) (front S k l j) (f j)) i
 
-  pub nodes-front : (lat lon : List ℤ) → nodesVerdict s (take n lat) (take n lon) ≡ nodesVerdict s lat lon
-  unfolding nodesVerdict outOfRange steepAt
+  nodes-front : (lat lon : List ℤ) → nodesVerdict s (take n lat) (take n lon) ≡ nodesVerdict s lat lon
+  unfolding nodesVerdict steepness outOfRange steepAt
   nodes-front lat lon =
       rw (
         first-same (outOfRange (take n lat) (take n lon)) (outOfRange lat lon) n (λ j l i. beyondRange (front lat j l i) || beyondRange (front lon j l i)),

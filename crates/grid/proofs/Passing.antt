@@ -1,19 +1,20 @@
 -- Laws of the checks: each answer of the code, and what a grid that passes has. Theorems use these, never the text of `verdict`.
 use Prim.Native.Nat.{ℕ, _*_, _≤_, _<_}
-use mathlib.Core.Path.{_≡_, refl}
+use mathlib.Core.Path.{_≡_, refl, sym, _∙_}
 use mathlib.Core.Bool.{false, not, _||_}
 use mathlib.Core.List.{List}
+use native.Mathlib.Omega.{arith}
 use lib.Dec.{ltb, eqb}
 use lib.ListN.{length}
 use lib.IntN.{ℤ}
 use borrow.Author.Tests.{ltb-false, lt-ltb, le-ltb, not-false, ne-eqb, eqb-true}
-use Rattle.laws.specs.First.{first, first-none}
+use Rattle.laws.specs.First.{first, first-is, first-none}
 use Rattle.laws.specs.Logic.{neither}
 use Rattle.figures.specs.Outcome.{answered, refused}
 use Rattle.figures.proofs.Laws.{both-answered, not-refused}
-use Rattle.grid.specs.Rules.{brokenRule, shape}
+use Rattle.grid.specs.Rules.{brokenRule, shape, nodeCount}
 use Rattle.grid.specs.Nodes.{node, beyondRange, outOfRange, steepNode, steepAt}
-use Rattle.grid.specs.Check.{layout, nodesVerdict, verdict, Passes}
+use Rattle.grid.specs.Check.{layout, steepness, nodesVerdict, verdict, Passes}
 use Rattle.grid.specs.Needs.{InRange}
 use Rattle.grid.specs.declared.Header.{Header}
 use Rattle.grid.specs.declared.Shape.{Shape}
@@ -58,11 +59,11 @@ module _ (s : Shape) (lat lon : List ℤ) {f : ℕ} (e : f ≡ first (outOfRange
 
   module _ (l : s .rows * s .cols ≤ f) {g : ℕ} (d : g ≡ first (steepAt s lat lon) (s .rows * s .cols)) where
     pub too-steep : g < s .rows * s .cols → refused 4 g ≡ nodesVerdict s lat lon
-    unfolding nodesVerdict
+    unfolding nodesVerdict steepness
     too-steep m = rw (← e, le-ltb _ _ l, ← d, lt-ltb _ _ m)
 
     pub nodes-pass : s .rows * s .cols ≤ g → answered tt ≡ nodesVerdict s lat lon
-    unfolding nodesVerdict
+    unfolding nodesVerdict steepness
     nodes-pass m = rw (← e, le-ltb _ _ l, ← d, le-ltb _ _ m)
 
 module _ (h : Header) (lat lon : List ℤ) where
@@ -100,7 +101,7 @@ pub record Good (h : Header) (lat lon : List ℤ) : Type 0 where
   pub of-lon : Sound (shape h) lon
 
 nodes-sound : (s : Shape) (lat lon : List ℤ) → nodesVerdict s lat lon ≡ answered tt → Sound s lat × Sound s lon
-unfolding nodesVerdict steepAt
+unfolding nodesVerdict steepness steepAt
 nodes-sound s lat lon e =
     let n = s .rows * s .cols in
     let f = first (outOfRange lat lon) n in
@@ -120,3 +121,21 @@ good h lat lon e =
     let l = laid h lat lon a in
     let c = nodes-sound (shape h) lat lon (s .1) in
     record { laid-out = a; unbroken = l .unbroken; header = l .header; of-lat = c .0; of-lon = c .1 }
+
+-- ---- steepness, the last of the checks
+
+module _ (h : Header) (lat lon : List ℤ) where
+  -- where the others pass, it decides
+  pub steepness-left : brokenRule h ≡ 0 → nodeCount h ≤ length lat → nodeCount h ≤ length lon
+      → ((k : ℕ) → k < nodeCount h → outOfRange lat lon k ≡ false) → verdict h lat lon ≡ steepness (shape h) lat lon
+  unfolding nodesVerdict
+  steepness-left e a b ranged =
+      let count = nodeCount h in
+      let none : count ≡ first (outOfRange lat lon) count = first-is (outOfRange lat lon) count count (omega arith) ranged (λ l. absurd (omega arith)) in
+      sym (layout-passes h lat lon (room h lat lon e a b)) ∙ rw (← none, le-ltb count count (omega arith))
+
+  pub passes-steepness : Passes h lat lon → steepness (shape h) lat lon ≡ answered tt
+  unfolding verdict nodesVerdict
+  passes-steepness p =
+      let far = first (outOfRange lat lon) (nodeCount h) in
+      not-refused (ltb far (nodeCount h)) 3 far _ (both-answered (layout h lat lon) (nodesVerdict (shape h) lat lon) p .1) .1

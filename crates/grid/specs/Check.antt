@@ -25,13 +25,19 @@ layout h lat lon =
     refuseIf (not (eqb (brokenRule h) 0)) 2 (brokenRule h)
     (refuseIf (ltb (length lat) n || ltb (length lon) n) 5 n (answered tt))
 
--- "a shift is beyond its range", "a node is too steep", each at the lowest such node
+-- "a node is too steep to its east or north neighbour", at the lowest such node
+unfoldable pub steepness : Shape → (lat lon : List ℤ) → Outcome Unit
+steepness s lat lon =
+    let n = s .rows * s .cols in
+    let steep = first (steepAt s lat lon) n in
+    refuseIf (ltb steep n) 4 steep (answered tt)
+
+-- "a shift is beyond its range", at the lowest such node; then steepness
 unfoldable pub nodesVerdict : Shape → (lat lon : List ℤ) → Outcome Unit
 nodesVerdict s lat lon =
     let n = s .rows * s .cols in
     let far = first (outOfRange lat lon) n in
-    let steep = first (steepAt s lat lon) n in
-    refuseIf (ltb far n) 3 far (refuseIf (ltb steep n) 4 steep (answered tt))
+    refuseIf (ltb far n) 3 far (steepness s lat lon)
 
 unfoldable pub verdict : Header → (lat lon : List ℤ) → Outcome Unit
 verdict h lat lon = andThen (layout h lat lon) (nodesVerdict (shape h) lat lon)

@@ -1,16 +1,16 @@
 -- The number of nodes in the last line: it is known before it is read, so a digit that does not lead to it is refused.
 use Prim.Native.Nat.{ℕ, zero, suc, _+_, _-_, _*_, _/_, _^_, _<_}
 use mathlib.Core.Path.{_≡_, refl, sym, ap, _∙_, subst}
-use mathlib.Core.Bool.{Bool, true, false, not, _&&_, _||_, cond, false≢true, true≢false}
+use mathlib.Core.Bool.{Bool, true, false, not, _&&_, _||_, cond}
 use mathlib.Core.List.{List, [], _∷_, _++_, append-assoc, append-nil}
 use mathlib.Core.Logic.{_⊎_, inl, inr}
-use mathlib.Core.Option.{Option, none as nothing, some, Option·some-injective, Option·some-ne-none}
+use mathlib.Core.Option.{some, Option·some-injective, Option·some-ne-none}
 use native.Mathlib.Omega.{arith}
 use native.Mathlib.Nat.{pos-of-ne-zero}
-use borrow.Author.Tests.{eqb-true, eqb-false, eq-eqb, ne-eqb, lt-ltb, ltb-true, not-true, not-false}
+use borrow.Author.Tests.{eqb-true, eqb-false, eq-eqb, lt-ltb, ltb-true, not-true}
 use lib.Dec.{ltb, eqb}
 use lib.IntN.{ℤ, pos, pos-ne-negsuc}
-use Rattle.laws.specs.Logic.{both, neither, not-both, is-true, is-false, eqZ, eqZ-holds, eqZ-true}
+use Rattle.laws.specs.Logic.{both, neither, not-both, is-true, is-false, eqZ, eqZ-holds, eqZ-true, by-cond}
 use Rattle.figures.specs.Outcome.{Outcome, refused, refuseIf}
 use Rattle.figures.specs.declared.Refusal.{Refusal}
 use Rattle.decimal.specs.Spelling.{isDigit, numberIn}
@@ -19,7 +19,7 @@ use Rattle.decimal.specs.declared.Number.{Number}
 use Rattle.decimal.specs.declared.Pushed.{Pushed}
 use Rattle.decimal.specs.declared.Pushed.the-variants.{Grown, Refused}
 use Rattle.decimal.proofs.Bytes.{digit-range}
-use Rattle.decimal.proofs.Grown.{by-cond, Good, push-grown, value-small}
+use Rattle.decimal.proofs.Grown.{Good, push-grown, value-small}
 use Rattle.decimal.proofs.Grammar.{number-pushed}
 use Rattle.grid.specs.declared.Header.{Header}
 use Rattle.grid_reader.specs.Reading.{Grid, whole, word}
@@ -54,7 +54,7 @@ module _ (n : Number) (b : ℕ) (m : Number) (s : (n .begun || n .negative) ≡ 
       (λ f e. by-cond (n .negative && eqb (b - 48) 0) e (λ _ e. absurd (refused-grown e))
       (λ _ e. subst (Digit n) (grown-is e) (record { begun = refl; sign = refl; grew = λ g. absurd (not-both s (rw (f, g))) })))
 
-  pub pushed-digit : pushed n b ≡ Grown m → Digit n m
+  pushed-digit : pushed n b ≡ Grown m → Digit n m
   unfolding pushed minusPushed
   pushed-digit e =
       by-cond (isDigit b) e digit-more
@@ -144,7 +144,7 @@ module _ (c : ℕ) where
         go true f zero q e = let w : 0 ≡ c = cc in absurd (omega arith)
         go true f (suc m) q e = absurd (pos-ne-negsuc c m (sym e))
 
-    pub last-leads : (n : Number) → Good n → (v : List ℕ) → (n .begun || n .negative) ≡ true → pushedAll n v ≡ some (pos c) → leads n c ≡ true
+    last-leads : (n : Number) → Good n → (v : List ℕ) → (n .begun || n .negative) ≡ true → pushedAll n v ≡ some (pos c) → leads n c ≡ true
     unfolding pushedAll
     last-leads n g [] s e =
         by-cond (n .begun) e
@@ -168,7 +168,7 @@ eqZ-pos m c = go (eqZ (pos m) (pos c)) refl (eqb m c) refl
     go false p true q = absurd (not-both (eqZ-true (ap pos (eqb-true m c q))) p)
     go false p false q = refl
 
-pub count-mark : Mark 76 10 9
+count-mark : Mark 76 10 9
 unfolding form linesBefore lineEnd
 count-mark = record { number = refl; stops = refl; inside = omega arith; lines = refl }
 
@@ -180,7 +180,7 @@ module _ (room : ℕ) (h : Header) (c k : ℕ) (x : ℤ) (lat lon : List ℤ) (f
   after v u = refuseIf (not (eqZ v (pos c))) 1 (10 + k) (at 78 none u)
 
   -- nothing was read of the number, or what leads to c
-  abbrev pub Led : Number → Type 0
+  abbrev Led : Number → Type 0
   Led n = (n ≡ none) ⊎ (leads n c ≡ true)
 
   count-stop : (n : Number) → Good n → Led n → (t : List ℕ)

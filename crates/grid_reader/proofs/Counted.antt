@@ -1,13 +1,14 @@
 -- A text that was read beyond the header has no more nodes than the rules allow, and than there is room for.
 use Prim.Native.Nat.{ℕ, _+_, _≤_, _<_, min}
 use mathlib.Core.Path.{_≡_, refl, sym, ap, subst, _∙_}
-use mathlib.Core.Bool.{Bool, true, false, not, _&&_, _||_, cond}
+use mathlib.Core.Bool.{not, _&&_, _||_}
 use mathlib.Core.List.{List, [], _∷_}
 use native.Mathlib.Omega.{arith}
 use borrow.Author.Tests.{ltb-true, ltb-false, eqb-true, eqb-false}
 use lib.Dec.{ltb, eqb}
 use lib.ListN.{length}
 use lib.IntN.{ℤ}
+use Rattle.laws.specs.Logic.{by-test}
 use Rattle.decimal.specs.Pushing.{pushed, valueOf}
 use Rattle.decimal.specs.declared.Pushed.{Pushed}
 use Rattle.grid.specs.Rules.{brokenRule, nodeCount}
@@ -36,16 +37,12 @@ abbrev Reached : ℕ → Taken → Type 0
 Reached room (Taken.On t) = Counted room t
 Reached room (Taken.Refused w) = Unit
 
-by-cond : (room : ℕ) (b : Bool) (x y : Step) → (b ≡ true → Stepped room x) → (b ≡ false → Stepped room y) → Stepped room (cond b x y)
-by-cond room true x y f g = f refl
-by-cond room false x y f g = g refl
-
 module _ (room : ℕ) where
   header-counted : (h : Header) → Stepped room (headerEnd room h)
   unfolding headerEnd
   header-counted h =
-      by-cond room (eqb (brokenRule h) 0) _ _
-      (λ e. by-cond room (ltb room (nodeCount h)) _ _ (λ _. tt)
+      by-test (Stepped room) (eqb (brokenRule h) 0)
+      (λ e. by-test (Stepped room) (ltb room (nodeCount h)) (λ _. tt)
       (λ l. record { few = λ _. extent (rules-hold h (eqb-true (brokenRule h) 0 e)) .nodes; held = λ _. ltb-false room (nodeCount h) l }))
       (λ _. tt)
 
@@ -57,12 +54,12 @@ module _ (room : ℕ) where
     node-counted : (x : ℤ) → 62 ≤ s .at → Stepped room (nodeEnd s x)
     unfolding nodeEnd
     node-counted x h =
-        by-cond room (beyondRange (s .lat) || beyondRange x) _ _ (λ _. tt)
-        (λ _. by-cond room (ltb (s .node + 1) (s .count)) _ _ (λ _. kept _ (λ _. h) refl) (λ _. kept _ (λ _. h) refl))
+        by-test (Stepped room) (beyondRange (s .lat) || beyondRange x) (λ _. tt)
+        (λ _. by-test (Stepped room) (ltb (s .node + 1) (s .count)) (λ _. kept _ (λ _. h) refl) (λ _. kept _ (λ _. h) refl))
 
     count-counted : 62 ≤ s .at → Stepped room (countEnd s)
     unfolding countEnd
-    count-counted h = by-cond room (eqb (s .number .magnitude) (s .count)) _ _ (λ _. kept _ (λ _. h) refl) (λ _. tt)
+    count-counted h = by-test (Stepped room) (eqb (s .number .magnitude) (s .count)) (λ _. kept _ (λ _. h) refl) (λ _. tt)
 
     -- a number of the header ends before place 62
     header-number-counted : (x : ℤ) → formAt (s .at) ≡ 35 → s .at < 61 → Stepped room (headerNumberEnd s x)
@@ -72,39 +69,39 @@ module _ (room : ℕ) where
     closed-counted : (x : ℤ) → formAt (s .at) ≡ 35 → Stepped room (closed room s x)
     unfolding closed
     closed-counted x p =
-        by-cond room (ltb (s .at) 61) _ _ (λ l. header-number-counted x p (ltb-true (s .at) 61 l))
-        (λ l. by-cond room (eqb (s .at) 61) _ _ (λ _. header-counted _)
+        by-test (Stepped room) (ltb (s .at) 61) (λ l. header-number-counted x p (ltb-true (s .at) 61 l))
+        (λ l. by-test (Stepped room) (eqb (s .at) 61) (λ _. header-counted _)
         (λ e. let h : 62 ≤ s .at = beyond (ltb-false (s .at) 61 l) (eqb-false (s .at) 61 e) in
-        by-cond room (eqb (s .at) 68) _ _ (λ _. kept _ (λ _. h) refl)
-        (λ _. by-cond room (eqb (s .at) 70) _ _ (λ _. node-counted x h) (λ _. count-counted h))))
+        by-test (Stepped room) (eqb (s .at) 68) (λ _. kept _ (λ _. h) refl)
+        (λ _. by-test (Stepped room) (eqb (s .at) 70) (λ _. node-counted x h) (λ _. count-counted h))))
       where
         beyond : {n : ℕ} → 61 ≤ n → (n ≡ 61 → ⊥) → 62 ≤ n
         beyond h n = omega arith
 
     push-counted : (x : Pushed) → Stepped room (push s x)
     unfolding grown
-    push-counted (Pushed.Grown n) = by-cond room (eqb (s .at) 76 && not (leads n (s .count))) _ _ (λ _. tt) (λ _. kept _ (λ h. h) refl)
+    push-counted (Pushed.Grown n) = by-test (Stepped room) (eqb (s .at) 76 && not (leads n (s .count))) (λ _. tt) (λ _. kept _ (λ h. h) refl)
     push-counted Pushed.Refused = tt
 
     number-counted : (b : ℕ) → formAt (s .at) ≡ 35 → Stepped room (numberStep room s b)
     unfolding numberStep
     number-counted b p =
-        by-cond room (eqb b (formAt (s .at + 1))) _ _
-        (λ _. by-cond room (s .number .begun) _ _ (λ _. closed-counted (valueOf (s .number)) p) (λ _. tt))
+        by-test (Stepped room) (eqb b (formAt (s .at + 1)))
+        (λ _. by-test (Stepped room) (s .number .begun) (λ _. closed-counted (valueOf (s .number)) p) (λ _. tt))
         (λ _. push-counted (pushed (s .number) b))
 
     literal-counted : (b : ℕ) → (formAt (s .at) ≡ 35 → ⊥) → Stepped room (literalStep s b)
     unfolding literalStep form
     literal-counted b p =
         let n : s .at ≡ 61 → ⊥ = λ e. p (ap formAt e) in
-        by-cond room (ltb (s .at) 78 && eqb b (formAt (s .at))) _ _
+        by-test (Stepped room) (ltb (s .at) 78 && eqb b (formAt (s .at)))
         (λ _. kept _ (λ h. omega arith) refl)
         (λ _. tt)
 
     step-counted : (b : ℕ) → Stepped room (step room s b)
     unfolding step
     step-counted b =
-        by-cond room (eqb (formAt (s .at)) 35) _ _
+        by-test (Stepped room) (eqb (formAt (s .at)) 35)
         (λ e. number-counted b (eqb-true (formAt (s .at)) 35 e)) (λ e. literal-counted b (eqb-false (formAt (s .at)) 35 e))
 
   taken-counted : (s : Scan) (lat lon : List ℤ) (x : Step) → Stepped room x → Reached room (taken s lat lon x .out)

@@ -22,10 +22,10 @@ use Rattle.decimal.proofs.Grown.{and-false}
 use Rattle.decimal.proofs.Spelled.{first-digit, more-digit}
 use Rattle.grid.specs.Rules.{brokenRule, shape, nodeCount}
 use Rattle.grid.specs.Nodes.{outOfRange, steepAt}
-use Rattle.grid.specs.Check.{layout, nodesVerdict, verdict}
+use Rattle.grid.specs.Check.{layout, steepness, nodesVerdict, verdict}
 use Rattle.grid.specs.declared.Header.{Header}
 use Rattle.grid_reader.specs.Reading.{reading}
-use Rattle.grid_reader.specs.Scan.{formAt, start, closed, leads, grown, numberStep, literalStep, step, fed, finished}
+use Rattle.grid_reader.specs.Scan.{formAt, start, closed, leads, grown, numberStep, literalStep, step, fed, ended, finished}
 use Rattle.grid_reader.specs.declared.Scan.{Scan}
 use Rattle.grid_reader.specs.declared.Step.{Step}
 use Rattle.grid_reader.specs.declared.Taken.{Taken}
@@ -56,7 +56,7 @@ andThen-of-form (answered a) f g = g
 andThen-of-form (refused n k) f g = refused-of-form n k (λ e. f k (ap (λ j. refused j k) e))
 
 verdict-of-form : (h : Header) (lat lon : List ℤ) → OfForm (verdict h lat lon)
-unfolding verdict layout nodesVerdict
+unfolding verdict layout nodesVerdict steepness
 verdict-of-form h lat lon =
     let n = nodeCount h in
     let far = first (outOfRange lat lon) n in
@@ -65,6 +65,11 @@ verdict-of-form h lat lon =
     (refuseIf-of-form (not (eqb (brokenRule h) 0)) 2 (brokenRule h) (omega arith)
     (refuseIf-of-form (ltb (length lat) n || ltb (length lon) n) 5 n (omega arith) (answered-of-form tt)))
     (refuseIf-of-form (ltb far n) 3 far (omega arith) (refuseIf-of-form (ltb steep n) 4 steep (omega arith) (answered-of-form tt)))
+
+-- a whole text is of the form
+pub whole-of-form : (s : Scan) (lat lon : List ℤ) → eqb (s .at) 78 ≡ true → OfForm (ended (Taken.On s) lat lon)
+whole-of-form s lat lon e =
+    rw e (andThen-of-form (verdict (s .header) (take (s .count) lat) (take (s .count) lon)) (verdict-of-form _ _ _) (answered-of-form _))
 
 -- ---- how much a state still needs
 
@@ -206,8 +211,7 @@ module _ (room : ℕ) where
 
       ends : ((t : Scan) (a c : List ℤ) → Open t → size t < fuel → (x : List ℕ) × OfForm (readFrom room t a c x))
           → (t : Bool) → eqb (s .at) 78 ≡ t → (x : List ℕ) × OfForm (readFrom room s lat lon x)
-      ends rest true e =
-          ([], rw e (andThen-of-form (verdict (s .header) (take (s .count) lat) (take (s .count) lon)) (verdict-of-form _ _ _) (answered-of-form _)))
+      ends rest true e = ([], whole-of-form s lat lon e)
       ends rest false e =
           let f = forward s o (omega (arith, o .inside, eqb-false (s .at) 78 e)) in
           let g = on rest (step room s (f .0)) (open-step room s o (f .0)) (f .1) in

@@ -3,6 +3,7 @@ pub mod Feeding
 pub mod Counted
 pub mod Onward
 pub mod Pieces
+pub mod NodesSoFar
 pub mod Count
 pub mod LineByLine
 pub mod Endings
@@ -13,3 +14,4 @@ pub mod NumberEnds
 pub mod SoFarLaws
 pub mod Open
 pub mod Hopeless
+pub mod Refusals

@@ -9,7 +9,7 @@ use native.Mathlib.Nat.{mul-le-mul-right}
 use native.Mathlib.Numerals.{add-one}
 use borrow.Author.Tests.{ltb-true, ltb-false, eqb-true, lt-ltb, le-ltb}
 use lib.Dec.{ltb, eqb}
-use lib.ListN.{length, getD, drop, set, take, length-append}
+use lib.ListN.{length, getD, drop, set, take}
 use lib.Seq.{set-at, take-at, drop-cons}
 use lib.IntN.{ℤ, pos}
 use Rattle.laws.specs.Bytes.{bytes}
@@ -22,7 +22,7 @@ use Rattle.decimal.specs.declared.Number.{Number}
 use Rattle.decimal.proofs.Grown.{good-none}
 use Rattle.grid.specs.Rules.{brokenRule, shape, nodeCount}
 use Rattle.grid.specs.Nodes.{beyondRange}
-use Rattle.grid.specs.Check.{layout, verdict}
+use Rattle.grid.specs.Check.{layout, steepness}
 use Rattle.grid.specs.declared.Header.{Header}
 use Rattle.grid.proofs.RuleLaws.{rules-hold, extent}
 use Rattle.grid_reader.specs.Reading.{Grid, fixed, word, field, newline, comma, nothing, header, ending, nodes, reading}
@@ -32,21 +32,19 @@ use Rattle.grid_reader.specs.declared.Taken.{Taken}
 use Rattle.grid_reader.proofs.Onward.{readFrom, onward, one-byte}
 use Rattle.grid_reader.proofs.Pieces.{isPiece, Mark, literals, numbers}
 use Rattle.grid_reader.proofs.Count.{counts}
+use Rattle.grid_reader.proofs.NodesSoFar.{NodesSoFar, no-node, longer, one-node, left-to-judge}
 
 -- ---- a node put behind those that were read
 
 put-over : (xs z : List ℤ) (a : ℤ) (k : ℕ) → length xs ≡ k → k < length z → set (over xs z) k a ≡ over (xs ++ (a ∷ [])) z
 unfolding over
 put-over xs z a k e l =
-    let q : length (xs ++ (a ∷ [])) ≡ suc k = length-append xs (a ∷ []) ∙ omega arith in
+    let q : length (xs ++ (a ∷ [])) ≡ suc k = longer xs a e (add-one k) in
     ap (λ (j : ℕ). set (xs ++ drop j z) k a) e
     ∙ ap (λ (t : List ℤ). set (xs ++ t) k a) (drop-cons z k (pos 0) l)
     ∙ set-at xs (getD z k (pos 0)) (drop (suc k) z) a k e
     ∙ ap (λ (j : ℕ). xs ++ (a ∷ drop j z)) (sym q)
     ∙ sym (append-assoc xs (a ∷ []) (drop (length (xs ++ (a ∷ []))) z))
-
-one-more : (xs : List ℤ) (a : ℤ) {k n : ℕ} → length xs ≡ k → k + 1 ≡ n → length (xs ++ (a ∷ [])) ≡ n
-one-more xs a e f = length-append xs (a ∷ []) ∙ omega (arith, e, f)
 
 take-over : (xs z : List ℤ) (n : ℕ) → length xs ≡ n → take n (over xs z) ≡ xs
 unfolding over
@@ -65,33 +63,44 @@ module _ (room : ℕ) (h : Header) (c k : ℕ) (x : ℤ) (lat lon : List ℤ) wh
       literals room h c k x lat lon key a l e t
       ∙ ap (fixed (suc l + k) key t) (λ i u. numbers room h c k x lat lon m next f g none good-none u i)
 
+-- ---- the number of nodes
+
+-- a header that breaks no rule has nodes, and not too many
+pub node-count : (h : Header) → brokenRule h ≡ 0 → (0 < nodeCount h) × (nodeCount h ≤ 2048)
+node-count h e =
+    let sizes = extent (rules-hold h e) in
+    (omega (arith, sizes .rows-low, sizes .cols-low, mul-le-mul-right (shape h .cols) (sizes .rows-low)), sizes .nodes)
+
 -- ---- the end line, and what follows it
 
-module _ (room : ℕ) (h : Header) (z w : List ℤ) (few : nodeCount h ≤ 2048) (some-nodes : 0 < nodeCount h) where
-  follows : (k : ℕ) (x : ℤ) (xs ys : List ℤ) → k + 1 ≡ nodeCount h → length xs ≡ nodeCount h → length ys ≡ nodeCount h → (t : List ℕ)
+module _ (room : ℕ) (h : Header) (unbroken : brokenRule h ≡ 0) (z w : List ℤ) where
+  few : nodeCount h ≤ 2048
+  few = node-count h unbroken .1
+
+  follows : (k : ℕ) (x : ℤ) (xs ys : List ℤ) → k + 1 ≡ nodeCount h → NodesSoFar (nodeCount h) xs ys → (t : List ℕ)
       → readFrom room (scan 78 none h (nodeCount h) k x) (over xs z) (over ys w) t
-      ≡ nothing (10 + nodeCount h) t (andThen (verdict h xs ys) (answered (record { header = h; lat = xs; lon = ys })))
+      ≡ nothing (10 + nodeCount h) t (andThen (steepness (shape h) xs ys) (answered (record { header = h; lat = xs; lon = ys })))
   unfolding fed step literalStep form linesBefore lineEnd
-  follows k x xs ys e lx ly [] = rw (take-over xs z (nodeCount h) lx, take-over ys w (nodeCount h) ly)
-  follows k x xs ys e lx ly (b ∷ t) =
+  follows k x xs ys e r [] = rw (take-over xs z (nodeCount h) (r .lats), take-over ys w (nodeCount h) (r .lons), left-to-judge h xs ys unbroken r)
+  follows k x xs ys e r (b ∷ t) =
       one-byte room (scan 78 none h (nodeCount h) k x) (over xs z) (over ys w) b t ∙ ap (refused 1) (omega arith)
 
-  ends : (k : ℕ) (x : ℤ) (xs ys : List ℤ) → k + 1 ≡ nodeCount h → length xs ≡ nodeCount h → length ys ≡ nodeCount h → (t : List ℕ)
+  ends : (k : ℕ) (x : ℤ) (xs ys : List ℤ) → k + 1 ≡ nodeCount h → NodesSoFar (nodeCount h) xs ys → (t : List ℕ)
       → readFrom room (scan 72 none h (nodeCount h) k x) (over xs z) (over ys w) t ≡ ending h xs ys t
   unfolding ending form linesBefore lineEnd
-  ends k x xs ys e lx ly t =
+  ends k x xs ys e r t =
       literals room h (nodeCount h) k x (over xs z) (over ys w) (bytes "end=") 72 9 refl t
-      ∙ ap (fixed (10 + k) (bytes "end=") t) (λ i u. counts room h (nodeCount h) k x (over xs z) (over ys w) (omega arith) some-nodes none good-none (inl refl) u i)
-      ∙ ap (field (10 + k) newline (bytes "end=") t) (λ i v u. refuseIf (not (eqZ v (pos (nodeCount h)))) 1 (10 + k) (follows k x xs ys e lx ly u i))
+      ∙ ap (fixed (10 + k) (bytes "end=") t) (λ i u. counts room h (nodeCount h) k x (over xs z) (over ys w) (omega (arith, few)) (node-count h unbroken .0) none good-none (inl refl) u i)
+      ∙ ap (field (10 + k) newline (bytes "end=") t) (λ i v u. refuseIf (not (eqZ v (pos (nodeCount h)))) 1 (10 + k) (follows k x xs ys e r u i))
       ∙ ap (λ (line : ℕ). field line newline (bytes "end=") t (λ v u. refuseIf (not (eqZ v (pos (nodeCount h)))) 1 line
-      (nothing (10 + nodeCount h) u (andThen (verdict h xs ys) (answered (record { header = h; lat = xs; lon = ys })))))) line-is
+      (nothing (10 + nodeCount h) u (andThen (steepness (shape h) xs ys) (answered (record { header = h; lat = xs; lon = ys })))))) line-is
     where
       line-is : 10 + k ≡ 9 + nodeCount h
       line-is = omega arith
 
   -- a node line: what is behind it is known
   node-line : (left k : ℕ) (x : ℤ) (xs ys : List ℤ)
-      → ((v y : ℤ) (t : List ℕ)
+      → ((v y : ℤ) (t : List ℕ) → (beyondRange v || beyondRange y) ≡ false
       → onward room k (over xs z) (over ys w)
       (cond (ltb (k + 1) (nodeCount h)) (Step.Node (scan 63 none h (nodeCount h) (k + 1) v) v y) (Step.Node (scan 72 none h (nodeCount h) k v) v y)) t
       ≡ nodes h left (suc k) (xs ++ (v ∷ [])) (ys ++ (y ∷ [])) t)
@@ -103,31 +112,31 @@ module _ (room : ℕ) (h : Header) (z w : List ℤ) (few : nodeCount h ≤ 2048)
       ∙ ap (field (9 + k) comma (bytes "node=") t) (λ i v u.
       (numbers room h (nodeCount h) k v (over xs z) (over ys w) {a = 70} {stop = newline} {l = 8} (record { number = refl; stops = refl; inside = omega arith; lines = refl })
       (nodeEnd (scan 70 none h (nodeCount h) k v)) (λ m y. refl) (omega arith) none good-none u
-      ∙ ap (word (9 + k) newline [] u) (λ j y r. judged v y r (beyondRange v || beyondRange y) j)) i)
+      ∙ ap (word (9 + k) newline [] u) (λ j y r. judged v y r (beyondRange v || beyondRange y) refl j)) i)
     where
-      judged : (v y : ℤ) (t : List ℕ) (d : Bool)
+      judged : (v y : ℤ) (t : List ℕ) (d : Bool) → (beyondRange v || beyondRange y) ≡ d
           → onward room k (over xs z) (over ys w)
           (cond d (Step.Refused (Refusal.Range k))
           (cond (ltb (k + 1) (nodeCount h)) (Step.Node (scan 63 none h (nodeCount h) (k + 1) v) v y) (Step.Node (scan 72 none h (nodeCount h) k v) v y))) t
           ≡ refuseIf d 3 k (nodes h left (suc k) (xs ++ (v ∷ [])) (ys ++ (y ∷ [])) t)
-      judged v y t true = refl
-      judged v y t false = rest v y t
+      judged v y t true f = refl
+      judged v y t false f = rest v y t f
 
   module _ (roomy-z : 2048 ≤ length z) (roomy-w : 2048 ≤ length w) where
-    node-lines : (left k : ℕ) (x : ℤ) (xs ys : List ℤ) → k + suc left ≡ nodeCount h → length xs ≡ k → length ys ≡ k → (t : List ℕ)
+    node-lines : (left k : ℕ) (x : ℤ) (xs ys : List ℤ) → k + suc left ≡ nodeCount h → NodesSoFar k xs ys → (t : List ℕ)
         → readFrom room (scan 63 none h (nodeCount h) k x) (over xs z) (over ys w) t ≡ nodes h (suc left) k xs ys t
     unfolding nodes
-    node-lines zero k x xs ys e lx ly t =
+    node-lines zero k x xs ys e r t =
         node-line zero k x xs ys
-        (λ v y t.
-        rw (le-ltb (k + 1) (nodeCount h) (omega arith), put-over xs z v k lx (omega arith), put-over ys w y k ly (omega arith))
-        (ends k v (xs ++ (v ∷ [])) (ys ++ (y ∷ [])) e (one-more xs v lx e) (one-more ys y ly e) t)) t
-    node-lines (suc left) k x xs ys e lx ly t =
+        (λ v y t f.
+        rw (le-ltb (k + 1) (nodeCount h) (omega arith), put-over xs z v k (r .lats) (omega (arith, few)), put-over ys w y k (r .lons) (omega (arith, few)))
+        (ends k v (xs ++ (v ∷ [])) (ys ++ (y ∷ [])) e (one-node r v y e f) t)) t
+    node-lines (suc left) k x xs ys e r t =
         node-line (suc left) k x xs ys
-        (λ v y t.
-        rw (lt-ltb (k + 1) (nodeCount h) (omega arith), put-over xs z v k lx (omega arith), put-over ys w y k ly (omega arith))
+        (λ v y t f.
+        rw (lt-ltb (k + 1) (nodeCount h) (omega arith), put-over xs z v k (r .lats) (omega (arith, few)), put-over ys w y k (r .lons) (omega (arith, few)))
         (ap (λ (j : ℕ). readFrom room (scan 63 none h (nodeCount h) j v) (over (xs ++ (v ∷ [])) z) (over (ys ++ (y ∷ [])) w) t) (add-one k)
-        ∙ node-lines left (suc k) v (xs ++ (v ∷ [])) (ys ++ (y ∷ [])) (omega arith) (one-more xs v lx (add-one k)) (one-more ys y ly (add-one k)) t)) t
+        ∙ node-lines left (suc k) v (xs ++ (v ∷ [])) (ys ++ (y ∷ [])) (omega arith) (one-node r v y (add-one k) f) t)) t
 
 -- ---- the header
 
@@ -139,12 +148,6 @@ shorter a b n = go (ltb a n) refl (ltb b n) refl
     go true e q f = lt-ltb (min a b) n (omega (arith, ltb-true a n e))
     go false e true f = lt-ltb (min a b) n (omega (arith, ltb-true b n f))
     go false e false f = le-ltb (min a b) n (omega (arith, ltb-false a n e, ltb-false b n f))
-
--- a header that breaks no rule has nodes, and not too many
-pub node-count : (h : Header) → brokenRule h ≡ 0 → (0 < nodeCount h) × (nodeCount h ≤ 2048)
-node-count h e =
-    let sizes = extent (rules-hold h e) in
-    (omega (arith, sizes .rows-low, sizes .cols-low, mul-le-mul-right (shape h .cols) (sizes .rows-low)), sizes .nodes)
 
 module _ (lat lon lats lons : List ℤ) (roomy-z : 2048 ≤ length lats) (roomy-w : 2048 ≤ length lons) where
   abbrev room : ℕ
@@ -162,7 +165,7 @@ module _ (lat lon lats lons : List ℤ) (roomy-z : 2048 ≤ length lats) (roomy-
       go zero q = absurd (omega (arith, node-count h e))
       go (suc left) q =
           subst (λ (j : ℕ). readFrom room (scan 63 none h (nodeCount h) 0 (pos 0)) lats lons t ≡ nodes h j 0 [] [] t) (sym q)
-          (node-lines room h lats lons (node-count h e .1) (node-count h e .0) roomy-z roomy-w left 0 (pos 0) [] [] (omega (arith, q)) refl refl t)
+          (node-lines room h e lats lons roomy-z roomy-w left 0 (pos 0) [] [] (omega (arith, q)) no-node t)
 
   -- the eight lines are whole
   judged : (h : Header) (t : List ℕ) → onward room 0 lats lons (headerEnd room h) t ≡ andThen (layout h lat lon) (nodes h (nodeCount h) 0 [] [] t)

@@ -10,6 +10,7 @@ use lib.Dec.{ltb, eqb}
 use lib.ListN.{length, set, length-set}
 use lib.Seq.{getD-set-same, getD-set-other}
 use lib.IntN.{ℤ, pos}
+use Rattle.laws.specs.Logic.{by-test}
 use Rattle.decimal.specs.Spelling.{spell}
 use Rattle.decimal.specs.Pushing.{none, valueOf}
 use Rattle.decimal.specs.declared.Number.{Number}
@@ -23,7 +24,7 @@ use Rattle.grid_reader.specs.SoFar.{numberAt, filledForm, linesSoFar, so
 use Rattle.grid_reader.specs.declared.Step.{Step}
 use Rattle.grid_reader.proofs.LineByLine.{node-count}
 use Rattle.grid_reader.proofs.FormLaws.{at-places, header-whole}
-use Rattle.grid_reader.proofs.ReadSoFar.{by-test, newlines-more, Placed, behind-is, Read, Kept}
+use Rattle.grid_reader.proofs.ReadSoFar.{newlines-more, Placed, behind-is, Read, Kept}
 
 -- ---- the lines of the nodes
 

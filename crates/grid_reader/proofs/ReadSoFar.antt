@@ -9,7 +9,7 @@ use borrow.Author.Tests.{eqb-true, eq-eqb, ltb-true, ltb-false, lt-ltb, le-ltb, 
 use lib.Dec.{ltb, eqb}
 use lib.ListN.{length, set}
 use lib.IntN.{ℤ, pos}
-use Rattle.laws.specs.Logic.{both, not-both, second-fails}
+use Rattle.laws.specs.Logic.{both, not-both, second-fails, by-test}
 use Rattle.decimal.specs.Pushing.{none, minusPushed, pushed, part}
 use Rattle.decimal.specs.declared.Number.{Number}
 use Rattle.decimal.specs.declared.Pushed.{Pushed}
@@ -23,10 +23,6 @@ use Rattle.grid_reader.proofs.Count.{leads-front}
 use Rattle.grid_reader.proofs.FormLaws.{form-more}
 
 -- what both sides of a test have
-pub by-test : {A : Type 0} (P : A → Type 0) (p : Bool) {x y : A} → (p ≡ true → P x) → (p ≡ false → P y) → P (cond p x y)
-by-test P true f g = f refl
-by-test P false f g = g refl
-
 pub newlines-more : (w : List ℕ) (b : ℕ) → newlines (w ++ (b ∷ [])) ≡ newlines w + cond (eqb b 10) 1 0
 unfolding newlines
 newlines-more [] b = omega arith

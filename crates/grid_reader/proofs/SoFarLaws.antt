@@ -7,6 +7,7 @@ use borrow.Author.Tests.{eqb-true}
 use lib.Dec.{eqb}
 use lib.ListN.{length, set}
 use lib.IntN.{ℤ}
+use Rattle.laws.specs.Logic.{by-test}
 use Rattle.figures.specs.declared.Refusal.{Refusal}
 use Rattle.decimal.specs.Pushing.{pushed, valueOf}
 use Rattle.decimal.proofs.Grown.{good-none}
@@ -16,7 +17,7 @@ use Rattle.grid_reader.specs.declared.Scan.{Scan}
 use Rattle.grid_reader.specs.declared.Step.{Step}
 use Rattle.grid_reader.specs.declared.Taken.{Taken}
 use Rattle.grid_reader.proofs.Feeding.{fed-refused}
-use Rattle.grid_reader.proofs.ReadSoFar.{by-test, Read, Kept, literal-kept, push-kept}
+use Rattle.grid_reader.proofs.ReadSoFar.{Read, Kept, literal-kept, push-kept}
 use Rattle.grid_reader.proofs.NumberEnds.{number-ends}
 
 -- ---- a byte

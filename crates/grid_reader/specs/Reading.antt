@@ -11,9 +11,9 @@ use Rattle.laws.specs.Bytes.{bytes}
 use Rattle.laws.specs.Logic.{eqZ}
 use Rattle.figures.specs.Outcome.{Outcome, answered, refused, refusal, andThen, refuseIf}
 use Rattle.decimal.specs.Spelling.{numberIn, over}
-use Rattle.grid.specs.Rules.{nodeCount}
+use Rattle.grid.specs.Rules.{shape, nodeCount}
 use Rattle.grid.specs.Nodes.{beyondRange}
-use Rattle.grid.specs.Check.{layout, verdict}
+use Rattle.grid.specs.Check.{layout, steepness}
 use Rattle.grid.specs.declared.Header.{Header}
 use Rattle.grid_reader.specs.declared.GridRead.{GridRead}
 
@@ -59,14 +59,14 @@ abbrev pub header : (south west dlat dlon rows cols : ℤ) → Header
 header south west dlat dlon rows cols =
     record { south = record { 0 = south }; west = record { 0 = west }; dlat = dlat; dlon = dlon; rows = rows; cols = cols }
 
--- "An `end` with another count than the nodes is 1." Of the checks of the grid only steepness is left to be judged
+-- "the end line and whatever follows it (1), then steepness (4)"; "An `end` with another count than the nodes is 1."
 unfoldable pub ending : Header → (lat lon : List ℤ) → (text : List ℕ) → Outcome Grid
 ending h lat lon text =
     let n = nodeCount h in
     field (9 + n) newline (bytes "end=") text λ count t.
     refuseIf (not (eqZ count (pos n))) 1 (9 + n)
     (nothing (10 + n) t
-    (andThen (verdict h lat lon) (answered (record { header = h; lat = lat; lon = lon }))))
+    (andThen (steepness (shape h) lat lon) (answered (record { header = h; lat = lat; lon = lon }))))
 
 -- the lines of the `left` nodes from node `k` on, behind the nodes `lat`, `lon`
 unfoldable pub nodes : Header → (left k : ℕ) → (lat lon : List ℤ) → (text : List ℕ) → Outcome Grid

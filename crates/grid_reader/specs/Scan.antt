@@ -1,6 +1,6 @@
 -- The same text read byte by byte: a state by value, and what a byte does to it.
 use Prim.Native.Nat.{ℕ, zero, suc, _+_, _/_}
-use mathlib.Core.Bool.{Bool, true, false, not, _&&_, _||_, cond}
+use mathlib.Core.Bool.{Bool, not, _&&_, _||_, cond}
 use mathlib.Core.List.{List, [], _∷_}
 use lib.Dec.{ltb, eqb}
 use lib.ListN.{getD, set, take}
@@ -105,9 +105,12 @@ leads n c =
     (not (n .negative) && ltb 0 (n .magnitude))
     && (((eqb (n .magnitude) c || eqb (n .magnitude) (c / 10)) || eqb (n .magnitude) (c / 100)) || eqb (n .magnitude) (c / 1000))
 
+abbrev pub withNumber : Scan → Number → Scan
+withNumber s n = scan (s .at) n (s .header) (s .count) (s .node) (s .lat)
+
 -- the number under way is n; the count of the nodes is known before it is read
 unfoldable pub grown : Scan → Number → Step
-grown s n = cond (eqb (s .at) 76 && not (leads n (s .count))) (departs s) (Step.On (scan (s .at) n (s .header) (s .count) (s .node) (s .lat)))
+grown s n = cond (eqb (s .at) 76 && not (leads n (s .count))) (departs s) (Step.On (withNumber s n))
 
 abbrev pub push : Scan → Pushed → Step
 push s (Pushed.Grown n) = grown s n

@@ -9,7 +9,7 @@ use grid::Header;
 ghost use mathlib.Core.Path.{_≡_};
 ghost use mathlib.Core.Bool.{_&&_, _||_, cond};
 ghost use Prim.Native.Nat.{_≤_, _<_, min};
-ghost use Rattle.grid_reader.specs.Scan.{formAt, lineEnd, lineAt, start, departs, to, filled, headerNumberEnd, headerEnd, nodeEnd, countEnd, closed, leads, grown, numberStep, literalStep, step};
+ghost use Rattle.grid_reader.specs.Scan.{formAt, lineEnd, lineAt, start, departs, to, filled, headerNumberEnd, headerEnd, nodeEnd, countEnd, closed, leads, withNumber, grown, numberStep, literalStep, step};
 
 // A `#` stands for a number. The node line comes once for each node.
 const FORM: [u8; 78] =
@@ -103,18 +103,27 @@ fn number_step(s: Scan, byte: u8, room: usize) -> Step
 fn grow(s: Scan, number: Number) -> Step
     ensures { λ r. ⌜ r ≡ grown s number ⌝ }
 {
-    if both(s.at == COUNT, !leads(number, s.count)) {
+    if s.at == COUNT {
+        if leads(number, s.count) {
+            return Step::On(with_number(s, number));
+        }
         return depart(s);
     }
+    Step::On(with_number(s, number))
+}
+
+fn with_number(s: Scan, number: Number) -> Scan
+    ensures { λ r. ⌜ r ≡ withNumber s number ⌝ }
+{
     let header = s.header;
-    Step::On(Scan {
+    Scan {
         at: s.at,
         number,
         header,
         count: s.count,
         node: s.node,
         lat: s.lat,
-    })
+    }
 }
 
 // Whether the digits of a number are the first of those of `count`, which has at most four.

@@ -1,6 +1,6 @@
 -- Tests joined by `and` and `or`, and the order of the integers as a test.
 use mathlib.Core.Path.{_≡_, refl, sym, subst, _∙_}
-use mathlib.Core.Bool.{Bool, true, false, _&&_, _||_}
+use mathlib.Core.Bool.{Bool, true, false, _&&_, _||_, cond}
 use lib.Dec.{T}
 use lib.IntN.{ℤ}
 use lib.Signed.{leZ, _≤ℤ_, _<ℤ_, leZ-yes, clashℤ, ≤ℤ-refl}
@@ -56,3 +56,15 @@ eqZ-holds {a} {b} e =
 pub eqZ-true : {a b : ℤ} → a ≡ b → eqZ a b ≡ true
 unfolding eqZ
 eqZ-true {a} e = rw (e, leZ-true (≤ℤ-refl _))
+
+-- ---- a value by a test
+
+-- what holds of both sides of a test holds of the value
+pub by-test : {A : Type 0} (P : A → Type 0) (p : Bool) {x y : A} → (p ≡ true → P x) → (p ≡ false → P y) → P (cond p x y)
+by-test P true f g = f refl
+by-test P false f g = g refl
+
+-- and a value that is known is that of one side
+pub by-cond : {A P : Type 0} (p : Bool) {x y r : A} → cond p x y ≡ r → (p ≡ true → x ≡ r → P) → (p ≡ false → y ≡ r → P) → P
+by-cond true e f g = f refl e
+by-cond false e f g = g refl e

@@ -1,32 +1,21 @@
-// Reads the grid text on standard input a thousand times over, so that the time of one reading can be measured.
+// Reads the grid text on standard input a thousand times over, so that the time of one reading can be measured (bench/read). Prints
+// a dot for each reading that is accepted and an exclamation mark for each that is refused.
 use grid_reader::GridRead;
 use libc::STDIN_FILENO;
 use libc::STDOUT_FILENO;
 
-fn ten(text: &[u8]) {
-    once(text);
-    once(text);
-    once(text);
-    once(text);
-    once(text);
-    once(text);
-    once(text);
-    once(text);
-    once(text);
-    once(text);
+fn main() {
+    let mut buffer = [0u8; 48_000];
+    let n = io::read_full(STDIN_FILENO, &mut buffer);
+    repeat(&buffer[..n]);
 }
 
-fn hundred(text: &[u8]) {
-    ten(text);
-    ten(text);
-    ten(text);
-    ten(text);
-    ten(text);
-    ten(text);
-    ten(text);
-    ten(text);
-    ten(text);
-    ten(text);
+fn repeat(text: &[u8]) {
+    let mut i: usize = 0;
+    while i < 1000 {
+        once(text);
+        i += 1;
+    }
 }
 
 fn once(text: &[u8]) {
@@ -40,23 +29,4 @@ fn once(text: &[u8]) {
             io::write_all(STDOUT_FILENO, b"!");
         }
     }
-}
-
-fn main() {
-    let mut buffer = [0u8; 48_000];
-    let got = libc::read(STDIN_FILENO, &mut buffer);
-    if got < 0 {
-        return;
-    }
-    let n = io::count(got, &buffer);
-    hundred(&buffer[..n]);
-    hundred(&buffer[..n]);
-    hundred(&buffer[..n]);
-    hundred(&buffer[..n]);
-    hundred(&buffer[..n]);
-    hundred(&buffer[..n]);
-    hundred(&buffer[..n]);
-    hundred(&buffer[..n]);
-    hundred(&buffer[..n]);
-    hundred(&buffer[..n]);
 }

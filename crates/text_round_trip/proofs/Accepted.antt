@@ -1,24 +1,27 @@
 -- A text that is accepted is the text of the grid that was read, and that grid passes the checks.
-use Prim.Native.Nat.{ℕ, zero, suc, _+_, _≤_, _<_}
+use Prim.Native.Nat.{ℕ, zero, suc, _+_, _≤_}
 use mathlib.Core.Path.{_≡_, refl, sym, ap, _∙_, subst}
-use mathlib.Core.Bool.{Bool, true, false, not, _||_}
+use mathlib.Core.Bool.{not, _||_}
 use mathlib.Core.List.{List, [], _∷_, _++_, append-assoc, append-nil}
 use native.Mathlib.Omega.{arith}
+use native.Mathlib.Numerals.{add-one}
 use borrow.Author.Tests.{not-false}
-use lib.ListN.{length, length-append, List·getD-append}
+use lib.ListN.{length, List·getD-append}
 use lib.Seq.{getD-at}
 use lib.IntN.{ℤ, pos}
 use Rattle.laws.specs.Bytes.{bytes}
 use Rattle.laws.specs.Logic.{eqZ, eqZ-holds}
-use Rattle.figures.specs.Outcome.{Outcome, answered, refused, andThen, refuseIf}
+use Rattle.figures.specs.Outcome.{Outcome, answered, andThen, refuseIf}
 use Rattle.figures.proofs.Laws.{answer-not-refusal, both-answered, not-refused, same-answer}
-use Rattle.decimal.specs.Spelling.{spell, Short}
-use Rattle.grid.specs.Rules.{nodeCount}
-use Rattle.grid.specs.Nodes.{node, beyondRange}
-use Rattle.grid.specs.Check.{layout, verdict, Passes}
+use Rattle.decimal.specs.Spelling.{spell}
+use Rattle.grid.specs.Rules.{brokenRule, shape, nodeCount}
+use Rattle.grid.specs.Nodes.{beyondRange}
+use Rattle.grid.specs.Check.{layout, steepness, Passes}
 use Rattle.grid.specs.declared.Header.{Header}
+use Rattle.grid.proofs.Passing.{laid}
 use Rattle.grid_text.specs.Text.{line, headerText, nodeLine, nodeLines, gridText}
-use Rattle.grid_reader.specs.Reading.{Grid, fixed, word, field, newline, comma, nothing, header, ending, nodes, reading}
+use Rattle.grid_reader.specs.Reading.{Grid, word, field, newline, comma, nothing, header, ending, nodes, reading}
+use Rattle.grid_reader.proofs.NodesSoFar.{NodesSoFar, no-node, one-node, left-to-judge}
 use Rattle.text_round_trip.proofs.Parsing.{fixed-there, word-there}
 
 -- ---- the lines of the nodes
@@ -67,9 +70,6 @@ nothing-there : {A : Type 0} {g : A} (n : ℕ) (t : List ℕ) (o : Outcome A) �
 nothing-there n [] o e = (refl, e)
 nothing-there n (b ∷ t) o e = absurd (answer-not-refusal (sym e))
 
-longer : (xs : List ℤ) (a : ℤ) {k : ℕ} → length xs ≡ k → length (xs ++ (a ∷ [])) ≡ suc k
-longer xs a e = length-append xs (a ∷ []) ∙ omega (arith, e)
-
 pub node-text : (a b : ℤ) (u : List ℕ) → bytes "node=" ++ (spell a ++ (comma ∷ (spell b ++ (newline ∷ u)))) ≡ nodeLine a b ++ u
 unfolding nodeLine
 node-text a b u = go (bytes "node=") (spell a) (bytes ",") (spell b) (bytes "\n")
@@ -84,41 +84,43 @@ module _ (h : Header) where
       (g .header ≡ h) × (nodeLines xs ys k ++ t ≡ nodeLines (g .lat) (g .lon) (nodeCount h) ++ line (bytes "end=") (pos (nodeCount h)))
       × Passes h (g .lat) (g .lon) × (length (g .lat) ≡ nodeCount h) × (length (g .lon) ≡ nodeCount h)
 
-  end-there : (xs ys : List ℤ) (t : List ℕ) (g : Grid) → length xs ≡ nodeCount h → length ys ≡ nodeCount h → ending h xs ys t ≡ answered g → Rest (nodeCount h) xs ys t g
-  unfolding ending
-  end-there xs ys t g lx ly e =
-      let n = nodeCount h in
-      let grid : Grid = record { header = h; lat = xs; lon = ys } in
-      let f = line-there (9 + n) (bytes "end=") t
-      (λ count u. refuseIf (not (eqZ count (pos n))) 1 (9 + n) (nothing (10 + n) u (andThen (verdict h xs ys) (answered grid)))) e in
-      let r = not-refused (not (eqZ (f .0) (pos n))) 1 (9 + n) (nothing (10 + n) (f .1) (andThen (verdict h xs ys) (answered grid))) (f .3) in
-      let c : f .0 ≡ pos n = eqZ-holds (not-false (eqZ (f .0) (pos n)) (r .0)) in
-      let o = nothing-there (10 + n) (f .1) (andThen (verdict h xs ys) (answered grid)) (r .1) in
-      let v = both-answered (verdict h xs ys) (answered grid) (o .1) in
-      let t-is : t ≡ line (bytes "end=") (pos n) = f .2 ∙ (λ i. line (bytes "end=") (c i) ++ o .0 i) ∙ append-nil (line (bytes "end=") (pos n)) in
-      subst (λ (q : Grid). Rest (nodeCount h) xs ys t q) (same-answer (v .1)) (refl, ap (λ (q : List ℕ). nodeLines xs ys n ++ q) t-is, v .0 .1, lx, ly)
+  module _ (unbroken : brokenRule h ≡ 0) where
+    end-there : (xs ys : List ℤ) (t : List ℕ) (g : Grid) → NodesSoFar (nodeCount h) xs ys → ending h xs ys t ≡ answered g → Rest (nodeCount h) xs ys t g
+    unfolding ending
+    end-there xs ys t g s e =
+        let n = nodeCount h in
+        let grid : Grid = record { header = h; lat = xs; lon = ys } in
+        let last = andThen (steepness (shape h) xs ys) (answered grid) in
+        let f = line-there (9 + n) (bytes "end=") t (λ count u. refuseIf (not (eqZ count (pos n))) 1 (9 + n) (nothing (10 + n) u last)) e in
+        let r = not-refused (not (eqZ (f .0) (pos n))) 1 (9 + n) (nothing (10 + n) (f .1) last) (f .3) in
+        let c : f .0 ≡ pos n = eqZ-holds (not-false (eqZ (f .0) (pos n)) (r .0)) in
+        let o = nothing-there (10 + n) (f .1) last (r .1) in
+        let v = both-answered (steepness (shape h) xs ys) (answered grid) (o .1) in
+        let t-is : t ≡ line (bytes "end=") (pos n) = f .2 ∙ (λ i. line (bytes "end=") (c i) ++ o .0 i) ∙ append-nil (line (bytes "end=") (pos n)) in
+        subst (λ (q : Grid). Rest (nodeCount h) xs ys t q) (same-answer (v .1))
+        (refl, ap (λ (q : List ℕ). nodeLines xs ys n ++ q) t-is, left-to-judge h xs ys unbroken s ∙ v .0 .1, s .lats, s .lons)
 
-  nodes-there : (left k : ℕ) (xs ys : List ℤ) (t : List ℕ) (g : Grid) → k + left ≡ nodeCount h → length xs ≡ k → length ys ≡ k
-      → nodes h left k xs ys t ≡ answered g → Rest k xs ys t g
-  unfolding nodes
-  nodes-there zero k xs ys t g s lx ly e =
-      let q : k ≡ nodeCount h = omega arith in
-      subst (λ (j : ℕ). Rest j xs ys t g) (sym q) (end-there xs ys t g (lx ∙ q) (ly ∙ q) e)
-  nodes-there (suc left) k xs ys t g s lx ly e =
-      let f = field-there (9 + k) comma (bytes "node=") t
-      (λ a u. word (9 + k) newline [] u (λ b v. refuseIf (beyondRange a || beyondRange b) 3 k (nodes h left (suc k) (xs ++ (a ∷ [])) (ys ++ (b ∷ [])) v))) e in
-      let w = word-there (9 + k) newline [] (f .1)
-      (λ b v. refuseIf (beyondRange (f .0) || beyondRange b) 3 k (nodes h left (suc k) (xs ++ (f .0 ∷ [])) (ys ++ (b ∷ [])) v)) (f .3) in
-      let a = f .0 in
-      let b = w .0 in
-      let u = w .1 in
-      let j = not-refused (beyondRange a || beyondRange b) 3 k (nodes h left (suc k) (xs ++ (a ∷ [])) (ys ++ (b ∷ [])) u) (w .4) in
-      let r = nodes-there left (suc k) (xs ++ (a ∷ [])) (ys ++ (b ∷ [])) u g (omega arith) (longer xs a lx) (longer ys b ly) (j .1) in
-      let l : nodeLines xs ys k ++ t ≡ nodeLines (xs ++ (a ∷ [])) (ys ++ (b ∷ [])) (suc k) ++ u =
-      ap (λ (q : List ℕ). nodeLines xs ys k ++ q) (f .2 ∙ ap (λ (q : List ℕ). bytes "node=" ++ (spell a ++ (comma ∷ q))) (w .2) ∙ node-text a b u)
-      ∙ sym (append-assoc (nodeLines xs ys k) (nodeLine a b) u)
-      ∙ ap (λ (q : List ℕ). q ++ u) (sym (lines-more xs ys a b k lx ly)) in
-      (r .0, l ∙ r .1, r .2, r .3, r .4)
+    nodes-there : (left k : ℕ) (xs ys : List ℤ) (t : List ℕ) (g : Grid) → k + left ≡ nodeCount h → NodesSoFar k xs ys
+        → nodes h left k xs ys t ≡ answered g → Rest k xs ys t g
+    unfolding nodes
+    nodes-there zero k xs ys t g s m e =
+        let q : k ≡ nodeCount h = omega arith in
+        subst (λ (j : ℕ). Rest j xs ys t g) (sym q) (end-there xs ys t g (subst (λ (j : ℕ). NodesSoFar j xs ys) q m) e)
+    nodes-there (suc left) k xs ys t g s m e =
+        let f = field-there (9 + k) comma (bytes "node=") t
+        (λ a u. word (9 + k) newline [] u (λ b v. refuseIf (beyondRange a || beyondRange b) 3 k (nodes h left (suc k) (xs ++ (a ∷ [])) (ys ++ (b ∷ [])) v))) e in
+        let w = word-there (9 + k) newline [] (f .1)
+        (λ b v. refuseIf (beyondRange (f .0) || beyondRange b) 3 k (nodes h left (suc k) (xs ++ (f .0 ∷ [])) (ys ++ (b ∷ [])) v)) (f .3) in
+        let a = f .0 in
+        let b = w .0 in
+        let u = w .1 in
+        let j = not-refused (beyondRange a || beyondRange b) 3 k (nodes h left (suc k) (xs ++ (a ∷ [])) (ys ++ (b ∷ [])) u) (w .4) in
+        let r = nodes-there left (suc k) (xs ++ (a ∷ [])) (ys ++ (b ∷ [])) u g (omega arith) (one-node m a b (add-one k) (j .0)) (j .1) in
+        let l : nodeLines xs ys k ++ t ≡ nodeLines (xs ++ (a ∷ [])) (ys ++ (b ∷ [])) (suc k) ++ u =
+        ap (λ (q : List ℕ). nodeLines xs ys k ++ q) (f .2 ∙ ap (λ (q : List ℕ). bytes "node=" ++ (spell a ++ (comma ∷ q))) (w .2) ∙ node-text a b u)
+        ∙ sym (append-assoc (nodeLines xs ys k) (nodeLine a b) u)
+        ∙ ap (λ (q : List ℕ). q ++ u) (sym (lines-more xs ys a b k (m .lats) (m .lons))) in
+        (r .0, l ∙ r .1, r .2, r .3, r .4)
 
 -- ---- the header
 
@@ -163,7 +165,7 @@ accepted text lat lon g e =
     let l₈ = line-there 8 (bytes "cols=") (l₇ .1) _ (l₇ .3) in
     let h = header (l₃ .0) (l₄ .0) (l₅ .0) (l₆ .0) (l₇ .0) (l₈ .0) in
     let b = both-answered (layout h lat lon) (nodes h (nodeCount h) 0 [] [] (l₈ .1)) (l₈ .3) in
-    let r = nodes-there h (nodeCount h) 0 [] [] (l₈ .1) g (zero-left (nodeCount h)) refl refl (b .1) in
+    let r = nodes-there h (laid h lat lon (b .0 .1) .unbroken) (nodeCount h) 0 [] [] (l₈ .1) g (zero-left (nodeCount h)) no-node (b .1) in
     let t-is : text ≡ headerText h ++ (l₈ .1) =
     l₁ .1
     ∙ ap (λ (t : List ℕ). bytes "from=NAD27\n" ++ t)

@@ -1,24 +1,24 @@
 -- The two returns of text: each answer of the code is the one that the definitions name.
-use Prim.Native.Nat.{ℕ, _≤_, _<_}
-use mathlib.Core.Path.{_≡_, refl, sym, ap, _∙_, subst}
+use Prim.Native.Nat.{ℕ, _≤_}
+use mathlib.Core.Path.{_≡_, refl, sym, ap, _∙_}
 use mathlib.Core.Bool.{Bool, true, false, _||_}
-use mathlib.Core.List.{List, [], _∷_, _++_}
+use mathlib.Core.List.{List, _++_}
 use native.Mathlib.Omega.{arith}
 use borrow.Author.Tests.{le-ltb}
 use lib.Dec.{ltb}
-use lib.ListN.{length, take, drop, length-append, length-take}
+use lib.ListN.{length, take, drop, length-append}
 use lib.Seq.{take-at}
 use lib.IntN.{ℤ, pos}
 use Rattle.laws.specs.Bytes.{bytes}
 use Rattle.figures.specs.Outcome.{Outcome, answered, refused, andThen, refuseIf, mapAnswer}
 use Rattle.figures.proofs.Laws.{answer-not-refusal, same-answer, both-answered}
 use Rattle.decimal.specs.Spelling.{over}
-use Rattle.grid.specs.Rules.{nodeCount, brokenRule, shape}
+use Rattle.grid.specs.Rules.{nodeCount}
 use Rattle.grid.specs.Check.{layout, verdict, Passes}
 use Rattle.grid.specs.declared.Header.{Header}
 use Rattle.grid.proofs.Passing.{good}
 use Rattle.grid.proofs.Front.{front-passes}
-use Rattle.grid_text.specs.Text.{headerText, nodeLines, line, gridText}
+use Rattle.grid_text.specs.Text.{headerText, line, gridText}
 use Rattle.grid_text.specs.Writing.{writing, roomAfter}
 use Rattle.grid_text.proofs.Lengths.{text-length}
 use Rattle.grid_reader.specs.Reading.{Grid, headerOf, reading, latAfter, lonAfter}

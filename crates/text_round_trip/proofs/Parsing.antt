@@ -1,5 +1,5 @@
 -- Reading by pieces, both ways: what was accepted was there, and what is there is accepted.
-use Prim.Native.Nat.{ℕ, suc, _+_, _/_, _%_, _≤_, _<_}
+use Prim.Native.Nat.{ℕ, suc, _+_, _/_, _%_, _<_}
 use mathlib.Core.Path.{_≡_, refl, sym, ap, _∙_}
 use mathlib.Core.Bool.{Bool, true, false, cond}
 use mathlib.Core.List.{List, [], _∷_, _++_, append-assoc, append-nil}
@@ -8,12 +8,12 @@ use native.Mathlib.Omega.{arith}
 use borrow.Author.Tests.{eqb-true, eq-eqb, ne-eqb}
 use lib.Dec.{eqb}
 use lib.IntN.{ℤ, pos, negsuc}
-use Rattle.figures.specs.Outcome.{Outcome, answered, refused, refuseIf, andThen}
+use Rattle.figures.specs.Outcome.{Outcome, answered, refused}
 use Rattle.figures.proofs.Laws.{answer-not-refusal}
 use Rattle.decimal.specs.Spelling.{digits, spell, Short, numberIn}
 use Rattle.decimal.proofs.Digits.{tens, digits-small, digits-more}
 use Rattle.decimal.proofs.Grammar.{grammar-spell, spell-grammar}
-use Rattle.grid_reader.specs.Reading.{fixed, whole, word, nothing}
+use Rattle.grid_reader.specs.Reading.{fixed, whole, word}
 
 -- ---- what was accepted was there
 

@@ -1,28 +1,28 @@
 -- The text of a grid that passes the checks is accepted, and gives that grid.
 use Prim.Native.Nat.{ℕ, zero, suc, _+_, _^_, _≤_, _<_}
-use mathlib.Core.Path.{_≡_, refl, sym, ap, _∙_, subst}
-use mathlib.Core.Bool.{false, not, _||_}
+use mathlib.Core.Path.{_≡_, refl, sym, ap, _∙_}
+use mathlib.Core.Bool.{not, _||_}
 use mathlib.Core.List.{List, [], _∷_, _++_, append-assoc, append-nil}
 use native.Mathlib.Omega.{arith}
 use lib.ListN.{length, take}
 use lib.Seq.{take-suc}
-use lib.IntN.{ℤ, pos, natAbs}
+use lib.IntN.{ℤ, pos}
 use Rattle.laws.specs.Bytes.{bytes}
 use Rattle.laws.specs.Parts.{Within, ints, abs-parts, parts-disjoint}
 use Rattle.laws.specs.Bounds.{own-size, widen}
 use Rattle.laws.specs.Logic.{eqZ, eqZ-true}
 use Rattle.figures.specs.Outcome.{Outcome, answered, andThen, refuseIf}
 use Rattle.decimal.specs.Spelling.{spell, Short}
-use Rattle.grid.specs.Rules.{minus, nodeCount, brokenRule, shape}
+use Rattle.grid.specs.Rules.{minus, nodeCount, shape}
 use Rattle.grid.specs.Nodes.{node, beyondRange}
-use Rattle.grid.specs.Check.{layout, verdict, Passes}
+use Rattle.grid.specs.Check.{layout, steepness, Passes}
 use Rattle.grid.specs.declared.Header.{Header}
 use Rattle.grid.proofs.RuleLaws.{Between, between-within, extent}
 use Rattle.grid.proofs.NodeLaws.{not-beyond}
-use Rattle.grid.proofs.Passing.{Good, good, laid}
+use Rattle.grid.proofs.Passing.{Good, good, laid, passes-steepness}
 use Rattle.grid.proofs.Front.{passes-front}
 use Rattle.grid_text.specs.Text.{line, headerText, nodeLine, nodeLines, gridText}
-use Rattle.grid_reader.specs.Reading.{Grid, fixed, word, field, newline, comma, nothing, header, ending, nodes, reading}
+use Rattle.grid_reader.specs.Reading.{Grid, word, field, newline, comma, nothing, header, ending, nodes, reading}
 use Rattle.text_round_trip.proofs.Parsing.{fixed-here, word-here}
 use Rattle.text_round_trip.proofs.Accepted.{node-text, header-text}
 
@@ -94,13 +94,13 @@ module _ (h : Header) (lat lon : List ℤ) (p : Passes h lat lon) where
   end-here =
       ap (λ (q : List ℕ). field (9 + n) newline (bytes "end=") q next) (sym (append-nil (line (bytes "end=") (pos n))))
       ∙ line-here (9 + n) (bytes "end=") [] (pos n) next (omega (arith, extent (checked .header) .nodes))
-      ∙ rw (eqZ-true {a = pos n} refl, passes-front h lat lon p)
+      ∙ rw (eqZ-true {a = pos n} refl, passes-steepness h (take n lat) (take n lon) (passes-front h lat lon p))
     where
       grid : Grid
       grid = record { header = h; lat = take n lat; lon = take n lon }
 
       next : ℤ → List ℕ → Outcome Grid
-      next count u = refuseIf (not (eqZ count (pos n))) 1 (9 + n) (nothing (10 + n) u (andThen (verdict h (take n lat) (take n lon)) (answered grid)))
+      next count u = refuseIf (not (eqZ count (pos n))) 1 (9 + n) (nothing (10 + n) u (andThen (steepness (shape h) (take n lat) (take n lon)) (answered grid)))
 
   -- the text of the grid, read into any two slices: the grid, where they have room for its nodes
   pub read-back : (lats lons : List ℤ) → reading (gridText h lat lon) lats lons ≡ andThen (layout h lats lons) (answered (record { header = h; lat = take n lat; lon = take n lon }))

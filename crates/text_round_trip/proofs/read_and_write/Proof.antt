@@ -5,10 +5,6 @@ use Rattle.text_round_trip.specs.Again.{scratch}
 use Rattle.text_round_trip.proofs.AgainLaws.{text-refused, text-again}
 use Rattle.text_round_trip.proofs.read_and_write.Statement.{statement}
 use Rattle.text_round_trip.proofs.read_and_write.Tie as tie
-use Rattle.text_round_trip.proofs.read_and_write.Reads as reads
-use Rattle.text_round_trip.proofs.read_and_write.Lts as lts
-use Rattle.grid_reader.proofs.read.Reads as read-reads
-use Rattle.grid_text.proofs.write.Reads as write-reads
 
 slice-aggregate-read : tie.Need-slice-aggregate-read
 slice-aggregate-read c = search needs

@@ -4,13 +4,9 @@ use mathlib.Core.Path.{_≡_, sym, ap, _∙_}
 use lib.ListN.{length, replicate, length-replicate}
 use lib.Seq.{length-take-le}
 use Rattle.grid_text.specs.Writing.{outcome}
-use Rattle.text_round_trip.proofs.AgainLaws.{lent, lent-text, grid-refused, grid-again}
+use Rattle.text_round_trip.proofs.AgainLaws.{lent, grid-refused, grid-again}
 use Rattle.text_round_trip.proofs.write_and_read.Statement.{statement}
 use Rattle.text_round_trip.proofs.write_and_read.Tie as tie
-use Rattle.text_round_trip.proofs.write_and_read.Reads as reads
-use Rattle.text_round_trip.proofs.write_and_read.Lts as lts
-use Rattle.grid_reader.proofs.read.Reads as read-reads
-use Rattle.grid_text.proofs.write.Reads as write-reads
 
 -- the room for the text
 zeros : length {A = ℕ} (replicate 48000 0) ≡ 48000

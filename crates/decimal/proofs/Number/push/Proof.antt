@@ -3,10 +3,6 @@ use Rattle.decimal.specs.Pushing.{pushed}
 use Rattle.decimal.proofs.Bytes.{is-digit, below-digit, above-digit}
 use Rattle.decimal.proofs.Number.push.Statement.{statement}
 use Rattle.decimal.proofs.Number.push.Tie as tie
-use Rattle.decimal.proofs.Number.push.Reads as reads
-use Rattle.decimal.proofs.Number.push.Lts as lts
-use Rattle.decimal.proofs.reading.push_digit.Reads as push-digit-reads
-use Rattle.decimal.proofs.reading.push_minus.Reads as push-minus-reads
 
 push-minus-requires : tie.Need-push-minus-requires
 push-minus-requires c κs = search needs

@@ -1,13 +1,11 @@
 use borrow.Author.Needs.{needs}
-use borrow.Author.Tests.{eq-eqb, ne-eqb, lt-ltb, le-ltb}
+use borrow.Author.Tests.{lt-ltb, le-ltb}
 use Rattle.decimal.specs.Pushing.{valueOf}
 use native.Mathlib.Omega.{arith}
 use lib.IntN.{pos}
 use Rattle.decimal.proofs.Signs.{neg-fits, neg-is, read-pos}
 use Rattle.decimal.proofs.Number.value.Statement.{statement}
 use Rattle.decimal.proofs.Number.value.Tie as tie
-use Rattle.decimal.proofs.Number.value.Reads as reads
-use Rattle.decimal.proofs.Number.value.Lts as lts
 
 returns : tie.Need-returns
 unfolding valueOf

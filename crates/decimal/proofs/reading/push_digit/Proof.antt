@@ -4,9 +4,6 @@ use mathlib.Core.Path.{sym, _∙_}
 use Rattle.decimal.specs.Pushing.{digitPushed}
 use Rattle.decimal.proofs.reading.push_digit.Statement.{statement}
 use Rattle.decimal.proofs.reading.push_digit.Tie as tie
-use Rattle.decimal.proofs.reading.push_digit.Reads as reads
-use Rattle.decimal.proofs.reading.push_digit.Lts as lts
-use Rattle.decimal.proofs.reading.both.Reads as both-reads
 
 returns : tie.Need-returns
 unfolding digitPushed

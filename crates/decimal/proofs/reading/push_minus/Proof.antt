@@ -1,9 +1,7 @@
-use borrow.Author.Tests.{eq-eqb, ne-eqb, lt-ltb, le-ltb}
+use borrow.Author.Tests.{eq-eqb, ne-eqb}
 use Rattle.decimal.specs.Pushing.{minusPushed}
 use Rattle.decimal.proofs.reading.push_minus.Statement.{statement}
 use Rattle.decimal.proofs.reading.push_minus.Tie as tie
-use Rattle.decimal.proofs.reading.push_minus.Reads as reads
-use Rattle.decimal.proofs.reading.push_minus.Lts as lts
 
 returns : tie.Need-returns
 unfolding minusPushed

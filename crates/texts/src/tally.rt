@@ -1,0 +1,44 @@
+// The count of cases.
+
+pub(crate) struct Tally {
+    cases: u64,
+    wrong: u64,
+}
+
+impl Tally {
+    pub(crate) fn new() -> Tally {
+        Tally { cases: 0, wrong: 0 }
+    }
+
+    pub(crate) fn counted(self, right: bool) -> Tally {
+        let cases = one_more(self.cases);
+        if right {
+            return Tally {
+                cases,
+                wrong: self.wrong,
+            };
+        }
+        Tally {
+            cases,
+            wrong: one_more(self.wrong),
+        }
+    }
+
+    // Prints a group's line.
+    pub(crate) fn print(self, name: &[u8]) {
+        io::write_all(1, name);
+        io::write_all(1, b": cases=");
+        io::print_decimal(1, self.cases);
+        io::write_all(1, b" wrong=");
+        io::print_decimal(1, self.wrong);
+        io::write_all(1, b"\n");
+    }
+}
+
+// The count stops far above the number of cases, so that it cannot overflow.
+fn one_more(n: u64) -> u64 {
+    if n < 1_000_000 {
+        return n + 1;
+    }
+    n
+}
