@@ -10,8 +10,8 @@ use borrow.Author.Tests.{le-leb, lt-leb}
 use lib.ListN.{length, getD, take, drop, set, length-append, length-drop, drop-of-length-le}
 use lib.Seq.{take-append-seam, drop-append-seam, take-all, take-suc, drop-drop}
 use borrow.Rule.Slice.PartMut.{midOf, putMid}
-use Rattle.decimal.specs.Spelling.{over, written}
-use Rattle.decimal.specs.Wrote.{Wrote}
+use Rattle.laws.specs.Over.{over}
+use Rattle.decimal.specs.Wrote.{Wrote, written}
 
 length-over : (w l : List ℕ) → length w ≤ length l → length (over w l) ≡ length l
 unfolding over

@@ -1,9 +1,9 @@
--- A number as decimal text (document 01, "The sheet"): how it is spelled, which texts are numbers, and what a writer leaves.
+-- A number as decimal text (document 01, "The sheet"): how it is spelled, and which texts are numbers.
 use Prim.Native.Nat.{ℕ, zero, suc, _+_, _-_, _*_, _/_, _%_, _^_, _<_}
 use mathlib.Core.Bool.{Bool, true, false, not, _&&_, _||_, cond}
 use mathlib.Core.List.{List, [], _∷_, _++_}
 use mathlib.Core.Option.{Option, none, some}
-use lib.ListN.{length, getD, drop}
+use lib.ListN.{length, getD}
 use lib.Dec.{ltb, leb, eqb}
 use lib.IntN.{ℤ, pos, negsuc, natAbs}
 
@@ -65,13 +65,3 @@ plain (some n) = some (pos n)
 unfoldable pub numberIn : List ℕ → Option ℤ
 numberIn [] = none
 numberIn (b ∷ t) = cond (eqb b 45) (minus (magnitudeIn t)) (plain (magnitudeIn (b ∷ t)))
-
--- ---- writing
-
--- w over the front of the room
-unfoldable pub over : {A : Type 0} → (w room : List A) → List A
-over w room = w ++ drop (length w) room
-
--- the same if the room has so many places, else the room as it was
-unfoldable pub written : (w room : List ℕ) → List ℕ
-written w room = cond (leb (length w) (length room)) (over w room) room

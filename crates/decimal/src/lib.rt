@@ -5,7 +5,8 @@ mod writing;
 ghost use mathlib.Core.Path.{_≡_};
 ghost use Prim.Native.Nat.{_≤_};
 ghost use lib.ListN.{length};
-ghost use Rattle.decimal.specs.Spelling.{spell, written};
+ghost use Rattle.decimal.specs.Spelling.{spell};
+ghost use Rattle.decimal.specs.Wrote.{written};
 
 // A number as far as its text was read.
 pub struct Number {

@@ -16,7 +16,7 @@ use Rattle.laws.specs.Bytes.{bytes}
 use Rattle.laws.specs.Logic.{eqZ}
 use Rattle.figures.specs.Outcome.{Outcome, answered, refused, andThen, refuseIf}
 use Rattle.figures.specs.declared.Refusal.{Refusal}
-use Rattle.decimal.specs.Spelling.{over}
+use Rattle.laws.specs.Over.{over}
 use Rattle.decimal.specs.Pushing.{none}
 use Rattle.decimal.specs.declared.Number.{Number}
 use Rattle.decimal.proofs.Grown.{good-none}

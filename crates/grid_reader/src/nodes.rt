@@ -7,7 +7,7 @@ ghost use mathlib.Core.Path.{_≡_};
 ghost use Rattle.grid_reader.specs.Scan.{start, step, taken, fed};
 ghost use Prim.Native.Nat.{_≤_};
 ghost use lib.ListN.{length, set};
-ghost use Rattle.decimal.specs.Spelling.{over};
+ghost use Rattle.laws.specs.Over.{over};
 
 // Scans a text. The nodes go to the front of `lat` and `lon`.
 pub(crate) fn scan(text: &[u8], room: usize, lat: &mut [i64], lon: &mut [i64]) -> Taken

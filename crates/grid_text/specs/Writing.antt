@@ -5,7 +5,7 @@ use lib.Dec.{ltb}
 use lib.ListN.{length}
 use lib.IntN.{ℤ}
 use Rattle.figures.specs.Outcome.{Outcome, answered, refused, refusal, andThen, refuseIf}
-use Rattle.decimal.specs.Spelling.{over}
+use Rattle.laws.specs.Over.{over}
 use Rattle.grid.specs.Check.{verdict}
 use Rattle.grid.specs.declared.Header.{Header}
 use Rattle.grid_text.specs.Text.{gridText}

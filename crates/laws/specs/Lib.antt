@@ -6,3 +6,4 @@ pub mod Quotient
 pub mod Logic
 pub mod First
 pub mod Bytes
+pub mod Over

@@ -7,7 +7,7 @@ use lib.Dec.{ltb}
 use lib.ListN.{length, take, replicate}
 use lib.IntN.{ℤ, pos}
 use Rattle.figures.specs.Outcome.{Outcome, answered, refused, andThen, refuseIf}
-use Rattle.decimal.specs.Spelling.{over}
+use Rattle.laws.specs.Over.{over}
 use Rattle.grid.specs.Rules.{nodeCount}
 use Rattle.grid.specs.Check.{verdict}
 use Rattle.grid.specs.declared.Header.{Header}

@@ -1,4 +1,3 @@
-use Rattle.grid.specs.Rules.{between}
 use Rattle.grid.proofs.RuleLaws.{below-low, from-low}
 use Rattle.laws.specs.Expr.{fitting, reads₂}
 use Rattle.laws.specs.Tests.{lt-yes, lt-no}
