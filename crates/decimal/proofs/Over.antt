@@ -1,5 +1,5 @@
 -- The laws of `over` and `Wrote`, of which every writer is composed: nothing written, a byte more, and a part more by a callee that was lent
--- the rest of the room.
+-- the rest of the room, or was told the place.
 use Prim.Native.Nat.{ℕ, _+_, _-_, _≤_, _<_}
 use mathlib.Core.Path.{_≡_, refl, sym, ap, _∙_}
 use mathlib.Core.List.{List, [], _∷_, _++_, append-assoc, append-nil}
@@ -7,8 +7,8 @@ use native.Mathlib.Omega.{arith}
 use native.Mathlib.Nat.{le-of-suc-le-suc, le-of-eq}
 use native.Mathlib.Numerals.{add-one}
 use borrow.Author.Tests.{le-leb, lt-leb}
-use lib.ListN.{length, getD, take, drop, set, length-append, length-drop, drop-of-length-le}
-use lib.Seq.{take-append-seam, drop-append-seam, take-all, take-suc, drop-drop}
+use lib.ListN.{length, getD, take, drop, set, length-append, length-drop, take-append-drop, drop-of-length-le}
+use lib.Seq.{length-take-le, take-append-seam, drop-append-seam, take-all, take-suc, drop-drop}
 use borrow.Rule.Slice.PartMut.{midOf, putMid}
 use Rattle.laws.specs.Over.{over}
 use Rattle.decimal.specs.Wrote.{Wrote, written}
@@ -42,12 +42,17 @@ rest-lent k m = take-all (length m - k) (drop k m) (le-of-eq (length-drop k m))
 rest-back : (k : ℕ) (m y : List ℕ) → putMid k (length m - k) m y ≡ take k m ++ y
 rest-back k m y = rw (drop-of-length-le (drop k m) (le-of-eq (length-drop k m)), append-nil)
 
-length-lent : (k : ℕ) (m : List ℕ) → length (midOf k (length m - k) m) ≡ length m - k
+pub length-lent : (k : ℕ) (m : List ℕ) → length (midOf k (length m - k) m) ≡ length m - k
 length-lent k m = ap length (rest-lent k m) ∙ length-drop k m
 
 pub wrote-none : (l : List ℕ) → Wrote [] l l 0
 unfolding over
 wrote-none l = record { counted = refl; front = refl }
+
+-- what stands at the front is as if written
+pub wrote-same : (k : ℕ) (m : List ℕ) → k ≤ length m → Wrote (take k m) m m k
+unfolding over
+wrote-same k m h = let e = length-take-le k m h in record { counted = sym e; front = rw e (sym (take-append-drop k m)) }
 
 module _ {w l m : List ℕ} {k : ℕ} (h : Wrote w l m k) where
   pub wrote-long : length w ≤ length l → length m ≡ length l
@@ -58,6 +63,16 @@ module _ {w l m : List ℕ} {k : ℕ} (h : Wrote w l m k) where
     counted = rw (length-append, h .counted) refl;
     front = rw (h .front, h .counted) (over-snoc w l b (rw (h .counted) at g));
   }
+
+  -- by a callee that was told the place k, and kept what stands before it
+  pub wrote-on : (v : List ℕ) {y : List ℕ} {j : ℕ} → Wrote (take k m ++ v) m y j → Wrote (w ++ v) l y j
+  wrote-on v {y} {j} r =
+      let e : take k m ≡ w = rw (h .front, h .counted) (over-take w l) in
+      let s = rw e at r in
+      record {
+        counted = s .counted;
+        front = s .front ∙ rw (over-append w v m, h .front, over-drop w l, over-append w v l);
+      }
 
   pub wrote-rest : {v y : List ℕ} {j : ℕ} → Wrote v (midOf k (length m - k) m) y j → Wrote (w ++ v) l (putMid k (length m - k) m y) (k + j)
   wrote-rest {v} {y} {j} r = record {
@@ -71,7 +86,7 @@ wrote-take text i {l} {m} h g k =
     let e : take (i + 1) text ≡ take i text ++ (getD text i 0 ∷ []) = rw (add-one, take-suc text i 0) in
     rw e (wrote-more h (getD text i 0) k)
 
--- ---- a text of many parts, each by a callee that was lent the rest of the room
+-- ---- a text of many parts, each by a callee that was lent the rest of the room, or was told the place
 
 -- a text and the parts behind it
 abbrev pub joined : (front : List ℕ) (parts : List (List ℕ)) → List ℕ
@@ -115,19 +130,22 @@ module _ {whole v l : List ℕ} {parts : List (List ℕ)} (p : Progress whole l 
   pub part-room : length v ≤ length (lent p)
   part-room = omega (arith, part-fits, stand-length, length-lent (p .at) (p .stand))
 
+  pub part-place : p .at + length v ≤ length (p .stand)
+  part-place = omega (arith, part-fits, stand-length)
+
+  -- how far it is when v is written too
+  abbrev pub Next : Type 0
+  Next = Progress whole l parts
+
+  abbrev pub part-behind : {y : List ℕ} {j : ℕ} → Wrote (take (p .at) (p .stand) ++ v) (p .stand) y j → Next
+  part-behind r = first-part (wrote-on (p .done) v r) (p .joins) (p .room)
+
   module _ {y : List ℕ} {j : ℕ} (r : Wrote v (lent p) y j) where
     pub part-end : p .at + j ≤ length l
     part-end = omega (arith, part-fits, r .counted)
 
-    abbrev pub next-part : Progress whole l parts
-    next-part = record {
-      at = p .at + j;
-      stand = putMid (p .at) (length (p .stand) - p .at) (p .stand) y;
-      front = p .front ++ v;
-      done = wrote-rest (p .done) r;
-      joins = p .joins;
-      room = p .room;
-    }
+    abbrev pub next-part : Next
+    next-part = first-part (wrote-rest (p .done) r) (p .joins) (p .room)
 
 -- a part of one byte
 module _ {whole l : List ℕ} {parts : List (List ℕ)} {b : ℕ} (p : Progress whole l ((b ∷ []) ∷ parts)) where
@@ -138,14 +156,7 @@ module _ {whole l : List ℕ} {parts : List (List ℕ)} {b : ℕ} (p : Progress 
   byte-within = omega (arith, part-fits p)
 
   abbrev pub next-byte : Progress whole l parts
-  next-byte = record {
-    at = p .at + 1;
-    stand = set (p .stand) (p .at) b;
-    front = p .front ++ (b ∷ []);
-    done = wrote-more (p .done) b byte-within;
-    joins = p .joins;
-    room = p .room;
-  }
+  next-byte = first-part (wrote-more (p .done) b byte-within) (p .joins) (p .room)
 
 -- ---- a writer that looks for room first
 

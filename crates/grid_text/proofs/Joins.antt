@@ -3,6 +3,10 @@ use Prim.Native.Nat.{ℕ}
 use mathlib.Core.Path.{_≡_, refl, sym, ap}
 use mathlib.Core.List.{List, [], _∷_, _++_, append-assoc}
 use lib.IntN.{ℤ, pos}
+use mir.Syntax.{w64}
+use mir.Val.{SFits}
+use mir.Facts.{toZ-ofZ}
+use Rattle.laws.specs.Expr.{machine}
 use Rattle.laws.specs.Bytes.{bytes}
 use Rattle.decimal.specs.Spelling.{spell}
 use Rattle.decimal.proofs.Over.{joined}
@@ -22,20 +26,20 @@ pub node-joins : (a b : ℤ) → joined (bytes "node=" ++ spell a) ((bytes "," +
 unfolding nodeLine
 node-joins a b = ap (λ (t : List ℕ). t ++ newline) (sym (append-assoc (bytes "node=" ++ spell a) (bytes ",") (spell b)))
 
--- behind the titles
+-- behind the titles, of the numbers as the machine has them
 abbrev pub headerLines : Header → List (List ℕ)
 headerLines h =
-    line (bytes "south=") (h .south .0)
-    ∷ line (bytes "west=") (h .west .0)
-    ∷ line (bytes "dlat=") (h .dlat)
-    ∷ line (bytes "dlon=") (h .dlon)
-    ∷ line (bytes "rows=") (h .rows)
-    ∷ line (bytes "cols=") (h .cols)
+    line (bytes "south=") (machine (h .south .0))
+    ∷ line (bytes "west=") (machine (h .west .0))
+    ∷ line (bytes "dlat=") (machine (h .dlat))
+    ∷ line (bytes "dlon=") (machine (h .dlon))
+    ∷ line (bytes "rows=") (machine (h .rows))
+    ∷ line (bytes "cols=") (machine (h .cols))
     ∷ []
 
-pub header-joins : (h : Header) → joined (bytes "from=NAD27\nto=NAD83\n") (headerLines h) ≡ headerText h
+pub header-joins : (h : Header) → SFits w64 (h .south .0) → SFits w64 (h .west .0) → SFits w64 (h .dlat) → SFits w64 (h .dlon) → SFits w64 (h .rows) → SFits w64 (h .cols) → joined (bytes "from=NAD27\nto=NAD83\n") (headerLines h) ≡ headerText h
 unfolding headerText
-header-joins h = refl
+header-joins h s w a b m n = rw (toZ-ofZ s, toZ-ofZ w, toZ-ofZ a, toZ-ofZ b, toZ-ofZ m, toZ-ofZ n)
 
 pub grid-joins : (h : Header) (lat lon : List ℤ) → joined (headerText h) (nodeLines lat lon (nodeCount h) ∷ line (bytes "end=") (pos (nodeCount h)) ∷ []) ≡ gridText h lat lon
 unfolding gridText

@@ -4,11 +4,20 @@ use super::lines::put_node;
 use super::lines::put_text;
 use super::node_count;
 use grid::Header;
-ghost use Prim.Native.Nat.{_≤_};
-ghost use lib.ListN.{length};
+ghost use Prim.Native.Nat.{_+_, _≤_};
+ghost use mathlib.Core.List.{_++_};
+ghost use lib.ListN.{length, take};
 ghost use Rattle.decimal.specs.Wrote.{Wrote};
-ghost use Rattle.grid_text.specs.Text.{headerText, nodeLines, gridText};
+ghost use Rattle.grid_text.specs.Text.{line, headerText, nodeLines, gridText};
 ghost use Rattle.grid_text.specs.Needs.{Ready};
+
+// A line from the place `at` on; what stands before it stays. The answer is the place behind the line.
+fn add_line(key: &[u8], x: i64, at: usize, room: &mut [u8]) -> usize
+    requires { ⌜ at + length (line (now key) x) ≤ length (now room) ⌝ }
+    ensures { λ r. ⌜ Wrote (take at (now (room .entry)) ++ line (now (key .entry)) x) (now (room .entry)) (now (room .exit)) r ⌝ }
+{
+    at + put_line(key, x, &mut room[at..])
+}
 
 fn put_header(h: Header, room: &mut [u8]) -> usize
     requires { ⌜ length (headerText h) ≤ length (now room) ⌝ }
@@ -17,12 +26,12 @@ fn put_header(h: Header, room: &mut [u8]) -> usize
     let south = h.south;
     let west = h.west;
     let mut at = put_text(b"from=NAD27\nto=NAD83\n", room);
-    at += put_line(b"south=", south.0, &mut room[at..]);
-    at += put_line(b"west=", west.0, &mut room[at..]);
-    at += put_line(b"dlat=", h.dlat, &mut room[at..]);
-    at += put_line(b"dlon=", h.dlon, &mut room[at..]);
-    at += put_line(b"rows=", h.rows, &mut room[at..]);
-    at + put_line(b"cols=", h.cols, &mut room[at..])
+    at = add_line(b"south=", south.0, at, room);
+    at = add_line(b"west=", west.0, at, room);
+    at = add_line(b"dlat=", h.dlat, at, room);
+    at = add_line(b"dlon=", h.dlon, at, room);
+    at = add_line(b"rows=", h.rows, at, room);
+    add_line(b"cols=", h.cols, at, room)
 }
 
 // The lines of the first n nodes.
@@ -48,5 +57,5 @@ pub(crate) fn put_grid<'a>(h: Header, lat: &'a [i64], lon: &'a [i64], room: &mut
     let n = node_count(h);
     let mut at = put_header(h, room);
     at += put_nodes(lat, lon, n, &mut room[at..]);
-    at + put_line(b"end=", n as i64, &mut room[at..])
+    add_line(b"end=", n as i64, at, room)
 }

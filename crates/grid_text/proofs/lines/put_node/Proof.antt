@@ -3,26 +3,23 @@ use native.Mathlib.Omega.{arith}
 use mathlib.Core.List.{[], _∷_, _++_}
 use mir.Facts.{toZ-ofZ}
 use Rattle.laws.specs.Bytes.{bytes}
+use Rattle.laws.specs.Expr.{machine}
 use Rattle.decimal.specs.Spelling.{spell}
-use Rattle.decimal.specs.Wrote.{Wrote}
-use Rattle.decimal.proofs.Over.{Progress, lent, first-part, part-start, part-room, part-end, next-part, byte-place, next-byte, all-parts, wrote-long}
+use Rattle.decimal.proofs.Over.{Progress, Next, first-part, part-start, part-room, part-end, next-part, byte-place, next-byte, all-parts, wrote-long}
 use Rattle.grid_text.specs.Text.{nodeLine}
 use Rattle.grid_text.proofs.Joins.{newline, node-joins}
 use Rattle.grid_text.proofs.Lengths.{length-node}
 use Rattle.grid_text.proofs.lines.put_node.Statement.{statement}
 use Rattle.grid_text.proofs.lines.put_node.Tie as tie
 
-abbrev latitude-done : (c : tie.After-slice-known2) → let a = c .before .before .before .before .before .before .args in Progress (nodeLine (a .lat) (a .lon)) (a .room .now) ((bytes "," ++ spell (a .lon)) ∷ newline ∷ [])
+-- the parts, of the longitude's shift as the machine has it
+abbrev latitude-done : (c : tie.After-slice-known2) → let a = c .before .before .before .before .before .before .args in Progress (nodeLine (a .lat) (a .lon)) (a .room .now) ((bytes "," ++ spell (machine (a .lon))) ∷ newline ∷ [])
 latitude-done c =
     let s = c .before .before .before .before .before .before in
-    let e = rw (toZ-ofZ (s .fits .lat)) at (c .before .before .put-field .ensures) in
-    first-part e (node-joins (s .args .lat) (s .args .lon)) (s .pre)
+    first-part (c .before .before .put-field .ensures) (rw (toZ-ofZ (s .fits .lat), toZ-ofZ (s .fits .lon)) (node-joins (s .args .lat) (s .args .lon))) (s .pre)
 
-longitude : (c : tie.After-put-field2) → let p = latitude-done (c .before .before .before) in Wrote (bytes "," ++ spell (c .before .before .before .before .before .before .before .before .before .args .lon)) (lent p) (c .put-field2 .last .1 .1 .0) (c .put-field2 .result)
-longitude c = rw (toZ-ofZ (c .before .before .before .before .before .before .before .before .before .fits .lon)) at (c .put-field2 .ensures)
-
-abbrev both-done : (c : tie.After-slice-known3) → let a = c .before .before .before .before .before .before .before .before .before .before .before .args in Progress (nodeLine (a .lat) (a .lon)) (a .room .now) (newline ∷ [])
-both-done c = next-part (latitude-done (c .before .before .before .before .before)) (longitude (c .before .before))
+abbrev both-done : (c : tie.After-slice-known3) → Next (latitude-done (c .before .before .before .before .before))
+both-done c = next-part (latitude-done (c .before .before .before .before .before)) (c .before .before .put-field2 .ensures)
 
 slice-aggregate-put-field : tie.Need-slice-aggregate-put-field
 slice-aggregate-put-field c = search needs
@@ -43,10 +40,10 @@ part-put-field-end : tie.Need-part-put-field-end
 part-put-field-end c = search needs
 
 put-field-requires-2 : tie.Need-put-field-requires-2
-put-field-requires-2 c κs = rw (toZ-ofZ (c .before .before .before .before .before .before .before .before .fits .lon)) (part-room (latitude-done (c .before .before)))
+put-field-requires-2 c κs = part-room (latitude-done (c .before .before))
 
 add-end : tie.Need-add-end
-add-end c = omega (arith, part-end (latitude-done (c .before .before .before .before .before)) (longitude (c .before .before)))
+add-end c = omega (arith, part-end (latitude-done (c .before .before .before .before .before)) (c .before .before .put-field2 .ensures))
 
 slice-write-room : tie.Need-slice-write-room
 slice-write-room c = byte-place (both-done c)
@@ -58,7 +55,7 @@ returns : tie.Need-returns
 returns c = all-parts (next-byte (both-done c))
 
 same-length : tie.Need-same-length
-same-length c = wrote-long (returns c) (c .before .before .before .before .before .before .before .before .before .before .before .pre)
+same-length c = wrote-long (returns c) (both-done c .room)
 
 pub put-node-spec : {M : Type 1} → statement M
 put-node-spec =

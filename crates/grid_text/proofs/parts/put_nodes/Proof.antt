@@ -5,7 +5,7 @@ use mathlib.Core.Path.{_≡_, sym}
 use mathlib.Core.List.{[], _∷_}
 use Rattle.laws.specs.Tests.{element}
 use Rattle.decimal.specs.Wrote.{Wrote}
-use Rattle.decimal.proofs.Over.{Progress, lent, wrote-none, wrote-long, first-part, part-start, part-room, part-end, next-part, all-parts}
+use Rattle.decimal.proofs.Over.{Progress, wrote-none, wrote-long, first-part, part-start, part-room, part-end, next-part, all-parts}
 use Rattle.grid.specs.Nodes.{node}
 use Rattle.grid_text.specs.Text.{nodeLine, nodeLines}
 use Rattle.grid_text.proofs.Lengths.{nodes-next, nodes-grow}
@@ -19,20 +19,15 @@ Inv-loop lat lon n room₀ at₀ k₀ room at k = (k ≤ n) × Wrote (nodeLines 
 abbrev μ-loop : tie.MeasureT-loop
 μ-loop lat lon n room₀ at₀ k₀ room at k = n - k
 
--- k lines are done, and the next has place
-abbrev before-done : (c : tie.In-loop Inv-loop μ-loop) → let a = c .before .before .before .args in let l = c .before .loop in Progress (nodeLines (a .lat .now) (a .lon .now) (l .k + 1)) (a .room .now) (nodeLine (node (a .lat .now) (l .k)) (node (a .lon .now) (l .k)) ∷ [])
+-- k lines are done, and the next, of the shifts as the machine has them, has place
+abbrev before-done : (c : tie.After-put-node-arg2 Inv-loop μ-loop) → let a = c .before .before .before .before .before .args in let k = c .before .before .before .loop .k in Progress (nodeLines (a .lat .now) (a .lon .now) (k + 1)) (a .room .now) (nodeLine (machine (node (a .lat .now) k)) (machine (node (a .lon .now) k)) ∷ [])
 before-done c =
-    let a = c .before .before .before .args in
-    let l = c .before .loop in
+    let a = c .before .before .before .before .before .args in
+    let l = c .before .before .before .loop in
+    let p : machine (node (a .lat .now) (l .k)) ≡ node (a .lat .now) (l .k) = element (c .before .put-node-arg .given) in
+    let q : machine (node (a .lon .now) (l .k)) ≡ node (a .lon .now) (l .k) = element (c .put-node-arg2 .given) in
     let g = nodes-grow (a .lat .now) (a .lon .now) (l .k + 1) (a .n) (omega arith) in
-    first-part (l .inv .1) (sym (nodes-next (a .lat .now) (a .lon .now) (l .k))) (omega arith)
-
--- the shifts, as the machine has them
-shifts : (c : tie.After-put-node-arg2 Inv-loop μ-loop) → let a = c .before .before .before .before .before .args in let l = c .before .before .before .loop in (machine (node (a .lat .now) (l .k)) ≡ node (a .lat .now) (l .k)) × (machine (node (a .lon .now) (l .k)) ≡ node (a .lon .now) (l .k))
-shifts c = (element (c .before .put-node-arg .given), element (c .put-node-arg2 .given))
-
-next-line : (c : tie.After-put-node Inv-loop μ-loop) → let a = c .before .before .before .before .before .before .before .args in let l = c .before .before .before .before .before .loop in let p = before-done (c .before .before .before .before) in Wrote (nodeLine (node (a .lat .now) (l .k)) (node (a .lon .now) (l .k))) (lent p) (c .put-node .last .1 .1 .0) (c .put-node .result)
-next-line c = let e = shifts (c .before .before) in rw (e .0, e .1) at (c .put-node .ensures)
+    first-part (l .inv .1) (rw (p, q) (sym (nodes-next (a .lat .now) (a .lon .now) (l .k)))) (omega arith)
 
 loop-holds : tie.Need-loop-holds Inv-loop μ-loop
 unfolding nodeLines
@@ -51,19 +46,19 @@ shared-slice-copy-out-put-node-2 : tie.Need-shared-slice-copy-out-put-node-2 Inv
 shared-slice-copy-out-put-node-2 c = search needs
 
 sub-put-node : tie.Need-sub-put-node Inv-loop μ-loop
-sub-put-node c = part-start (before-done (c .before .before))
+sub-put-node c = part-start (before-done c)
 
 part-put-node-start : tie.Need-part-put-node-start Inv-loop μ-loop
-part-put-node-start c = part-start (before-done (c .before .before))
+part-put-node-start c = part-start (before-done c)
 
 part-put-node-end : tie.Need-part-put-node-end Inv-loop μ-loop
 part-put-node-end c = search needs
 
 put-node-requires : tie.Need-put-node-requires Inv-loop μ-loop
-put-node-requires c κs = let e = shifts (c .before) in rw (e .0, e .1) (part-room (before-done (c .before .before .before)))
+put-node-requires c κs = part-room (before-done (c .before))
 
 add-at : tie.Need-add-at Inv-loop μ-loop
-add-at c = omega (arith, part-end (before-done (c .before .before .before .before .before .before)) (next-line (c .before .before)))
+add-at c = omega (arith, part-end (before-done (c .before .before .before .before)) (c .before .before .put-node .ensures))
 
 add-k : tie.Need-add-k Inv-loop μ-loop
 add-k c = search needs
@@ -72,7 +67,7 @@ loop-less : tie.Need-loop-less Inv-loop μ-loop
 loop-less c = search needs
 
 loop-again : tie.Need-loop-again Inv-loop μ-loop
-loop-again c = (search needs, all-parts (next-part (before-done (c .before .before .before .before .before .before)) (next-line (c .before .before))))
+loop-again c = (search needs, all-parts (next-part (before-done (c .before .before .before .before)) (c .before .before .put-node .ensures)))
 
 same-length : tie.Need-same-length Inv-loop μ-loop
 same-length c =
