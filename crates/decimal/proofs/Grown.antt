@@ -22,7 +22,7 @@ pub and-false : (p : Bool) → (p && false) ≡ false
 and-false true = refl
 and-false false = refl
 
-refused-grown : {m : Number} → Refused ≡ Grown m → ⊥
+pub refused-grown : {m : Number} → Refused ≡ Grown m → ⊥
 refused-grown e = let z : _≡_ {A = ℕ} 0 1 = cc in omega arith
 
 -- ---- what a number under way has

@@ -1,39 +1,17 @@
--- The laws of `over` and `Wrote`, of which every writer is composed: nothing written, a byte more, and a part more by a callee that was lent
+-- The laws of `Wrote`, of which every writer is composed: nothing written, a byte more, and a part more by a callee that was lent
 -- the rest of the room, or was told the place.
 use Prim.Native.Nat.{ℕ, _+_, _-_, _≤_, _<_}
 use mathlib.Core.Path.{_≡_, refl, sym, ap, _∙_}
-use mathlib.Core.List.{List, [], _∷_, _++_, append-assoc, append-nil}
+use mathlib.Core.List.{List, [], _∷_, _++_, append-nil}
 use native.Mathlib.Omega.{arith}
-use native.Mathlib.Nat.{le-of-suc-le-suc, le-of-eq}
+use native.Mathlib.Nat.{le-of-eq}
 use native.Mathlib.Numerals.{add-one}
 use borrow.Author.Tests.{le-leb, lt-leb}
 use lib.ListN.{length, getD, take, drop, set, length-append, length-drop, take-append-drop, drop-of-length-le}
-use lib.Seq.{length-take-le, take-append-seam, drop-append-seam, take-all, take-suc, drop-drop}
+use lib.Seq.{length-take-le, take-all, take-suc}
 use borrow.Rule.Slice.PartMut.{midOf, putMid}
-use Rattle.laws.specs.Over.{over}
+use Rattle.laws.specs.Over.{over, length-over, over-set, over-take, over-drop, over-append}
 use Rattle.decimal.specs.Wrote.{Wrote, written}
-
-length-over : (w l : List ℕ) → length w ≤ length l → length (over w l) ≡ length l
-unfolding over
-length-over w l h = simp (length-append, length-drop) (omega arith)
-
-over-snoc : (w l : List ℕ) (d : ℕ) → length w < length l → set (over w l) (length w) d ≡ over (w ++ (d ∷ [])) l
-unfolding over
-over-snoc w [] d h = absurd (omega arith)
-over-snoc [] (x ∷ l) d h = refl
-over-snoc (a ∷ w) (x ∷ l) d h = ap (λ (r : List ℕ). a ∷ r) (over-snoc w l d (le-of-suc-le-suc h))
-
-over-take : (w l : List ℕ) → take (length w) (over w l) ≡ w
-unfolding over
-over-take w l = take-append-seam w (drop (length w) l)
-
-over-drop : (w l : List ℕ) → drop (length w) (over w l) ≡ drop (length w) l
-unfolding over
-over-drop w l = drop-append-seam w (drop (length w) l)
-
-over-append : (a b l : List ℕ) → over (a ++ b) l ≡ a ++ over b (drop (length a) l)
-unfolding over
-over-append a b l = simp (length-append, append-assoc, drop-drop)
 
 -- the rest of a list from k on, as it is lent, and the list when it is back
 rest-lent : (k : ℕ) (m : List ℕ) → midOf k (length m - k) m ≡ drop k m
@@ -61,13 +39,13 @@ module _ {w l m : List ℕ} {k : ℕ} (h : Wrote w l m k) where
   pub wrote-more : (b : ℕ) → k < length l → Wrote (w ++ (b ∷ [])) l (set m k b) (k + 1)
   wrote-more b g = record {
     counted = rw (length-append, h .counted) refl;
-    front = rw (h .front, h .counted) (over-snoc w l b (rw (h .counted) at g));
+    front = rw (h .front, h .counted) (over-set w l b (length w) refl (rw (h .counted) at g));
   }
 
   -- by a callee that was told the place k, and kept what stands before it
   pub wrote-on : (v : List ℕ) {y : List ℕ} {j : ℕ} → Wrote (take k m ++ v) m y j → Wrote (w ++ v) l y j
   wrote-on v {y} {j} r =
-      let e : take k m ≡ w = rw (h .front, h .counted) (over-take w l) in
+      let e : take k m ≡ w = rw (h .front, h .counted) (over-take w l (length w) refl) in
       let s = rw e at r in
       record {
         counted = s .counted;
@@ -77,7 +55,7 @@ module _ {w l m : List ℕ} {k : ℕ} (h : Wrote w l m k) where
   pub wrote-rest : {v y : List ℕ} {j : ℕ} → Wrote v (midOf k (length m - k) m) y j → Wrote (w ++ v) l (putMid k (length m - k) m y) (k + j)
   wrote-rest {v} {y} {j} r = record {
     counted = rw (length-append, h .counted, r .counted) refl;
-    front = rest-back k m y ∙ rw (r .front, rest-lent k m, h .front, h .counted, over-take w l, over-drop w l, over-append w v l);
+    front = rest-back k m y ∙ rw (r .front, rest-lent k m, h .front, h .counted, over-take w l (length w) refl, over-drop w l, over-append w v l);
   }
 
 -- a turn of the loop that copies a text

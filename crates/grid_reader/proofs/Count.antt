@@ -19,7 +19,7 @@ use Rattle.decimal.specs.declared.Number.{Number}
 use Rattle.decimal.specs.declared.Pushed.{Pushed}
 use Rattle.decimal.specs.declared.Pushed.the-variants.{Grown, Refused}
 use Rattle.decimal.proofs.Bytes.{digit-range}
-use Rattle.decimal.proofs.Grown.{Good, push-grown, value-small}
+use Rattle.decimal.proofs.Grown.{refused-grown, Good, push-grown, value-small}
 use Rattle.decimal.proofs.Grammar.{number-pushed}
 use Rattle.grid.specs.declared.Header.{Header}
 use Rattle.grid_reader.specs.Reading.{Grid, whole, word}
@@ -38,9 +38,6 @@ pub record Digit (n m : Number) : Type 0 where
 module _ (n : Number) (b : ℕ) (m : Number) (s : (n .begun || n .negative) ≡ true) where
   grown-is : {j : Number} → Grown j ≡ Grown m → j ≡ m
   grown-is e = cc
-
-  refused-grown : Refused ≡ Grown m → ⊥
-  refused-grown e = let z : _≡_ {A = ℕ} 0 1 = cc in omega arith
 
   digit-more : isDigit b ≡ true → digitPushed n (b - 48) ≡ Grown m → Digit n m
   unfolding digitPushed
@@ -68,13 +65,10 @@ unfolding pushed digitPushed minusPushed
 pushed-started n b m e =
     by-cond (isDigit b) e
     (λ _ e. by-cond (n .begun) e
-    (λ _ e. by-cond (eqb (n .magnitude) 0 || ltb 9999999999 (n .magnitude)) e (λ _ e. absurd (none-grown e)) (λ _ e. started refl e))
-    (λ _ e. by-cond (n .negative && eqb (b - 48) 0) e (λ _ e. absurd (none-grown e)) (λ _ e. started refl e)))
-    (λ _ e. by-cond (eqb b 45 && not (n .begun || n .negative)) e (λ _ e. started refl e) (λ _ e. absurd (none-grown e)))
+    (λ _ e. by-cond (eqb (n .magnitude) 0 || ltb 9999999999 (n .magnitude)) e (λ _ e. absurd (refused-grown e)) (λ _ e. started refl e))
+    (λ _ e. by-cond (n .negative && eqb (b - 48) 0) e (λ _ e. absurd (refused-grown e)) (λ _ e. started refl e)))
+    (λ _ e. by-cond (eqb b 45 && not (n .begun || n .negative)) e (λ _ e. started refl e) (λ _ e. absurd (refused-grown e)))
   where
-    none-grown : Refused ≡ Grown m → ⊥
-    none-grown e = let z : _≡_ {A = ℕ} 0 1 = cc in omega arith
-
     started : {j : Number} → (j .begun || j .negative) ≡ true → Grown j ≡ Grown m → (m .begun || m .negative) ≡ true
     started {j} s e = let q : j ≡ m = cc in subst (λ (i : Number). (i .begun || i .negative) ≡ true) q s
 

@@ -2,21 +2,20 @@
 use Prim.Native.Nat.{ℕ, zero, suc, _+_, _≤_, _<_, min}
 use mathlib.Core.Path.{_≡_, refl, sym, ap, _∙_, subst}
 use mathlib.Core.Bool.{Bool, true, false, not, _||_, cond}
-use mathlib.Core.List.{List, [], _∷_, _++_, append-assoc}
+use mathlib.Core.List.{List, [], _∷_, _++_}
 use mathlib.Core.Logic.{inl}
 use native.Mathlib.Omega.{arith}
 use native.Mathlib.Nat.{mul-le-mul-right}
 use native.Mathlib.Numerals.{add-one}
 use borrow.Author.Tests.{ltb-true, ltb-false, eqb-true, lt-ltb, le-ltb}
 use lib.Dec.{ltb, eqb}
-use lib.ListN.{length, getD, drop, set, take}
-use lib.Seq.{set-at, take-at, drop-cons}
+use lib.ListN.{length}
 use lib.IntN.{ℤ, pos}
 use Rattle.laws.specs.Bytes.{bytes}
 use Rattle.laws.specs.Logic.{eqZ}
 use Rattle.figures.specs.Outcome.{Outcome, answered, refused, andThen, refuseIf}
 use Rattle.figures.specs.declared.Refusal.{Refusal}
-use Rattle.laws.specs.Over.{over}
+use Rattle.laws.specs.Over.{over, over-set, over-take}
 use Rattle.decimal.specs.Pushing.{none}
 use Rattle.decimal.specs.declared.Number.{Number}
 use Rattle.decimal.proofs.Grown.{good-none}
@@ -32,23 +31,7 @@ use Rattle.grid_reader.specs.declared.Taken.{Taken}
 use Rattle.grid_reader.proofs.Onward.{readFrom, onward, one-byte}
 use Rattle.grid_reader.proofs.Pieces.{isPiece, Mark, literals, numbers}
 use Rattle.grid_reader.proofs.Count.{counts}
-use Rattle.grid_reader.proofs.NodesSoFar.{NodesSoFar, no-node, longer, one-node, left-to-judge}
-
--- ---- a node put behind those that were read
-
-put-over : (xs z : List ℤ) (a : ℤ) (k : ℕ) → length xs ≡ k → k < length z → set (over xs z) k a ≡ over (xs ++ (a ∷ [])) z
-unfolding over
-put-over xs z a k e l =
-    let q : length (xs ++ (a ∷ [])) ≡ suc k = longer xs a e (add-one k) in
-    ap (λ (j : ℕ). set (xs ++ drop j z) k a) e
-    ∙ ap (λ (t : List ℤ). set (xs ++ t) k a) (drop-cons z k (pos 0) l)
-    ∙ set-at xs (getD z k (pos 0)) (drop (suc k) z) a k e
-    ∙ ap (λ (j : ℕ). xs ++ (a ∷ drop j z)) (sym q)
-    ∙ sym (append-assoc xs (a ∷ []) (drop (length (xs ++ (a ∷ []))) z))
-
-take-over : (xs z : List ℤ) (n : ℕ) → length xs ≡ n → take n (over xs z) ≡ xs
-unfolding over
-take-over xs z n e = take-at xs (drop (length xs) z) n e
+use Rattle.grid_reader.proofs.NodesSoFar.{NodesSoFar, no-node, one-node, left-to-judge}
 
 -- ---- a key and a number
 
@@ -81,7 +64,7 @@ module _ (room : ℕ) (h : Header) (unbroken : brokenRule h ≡ 0) (z w : List �
       → readFrom room (scan 78 none h (nodeCount h) k x) (over xs z) (over ys w) t
       ≡ nothing (10 + nodeCount h) t (andThen (steepness (shape h) xs ys) (answered (record { header = h; lat = xs; lon = ys })))
   unfolding fed step literalStep form linesBefore lineEnd
-  follows k x xs ys e r [] = rw (take-over xs z (nodeCount h) (r .lats), take-over ys w (nodeCount h) (r .lons), left-to-judge h xs ys unbroken r)
+  follows k x xs ys e r [] = rw (over-take xs z (nodeCount h) (r .lats), over-take ys w (nodeCount h) (r .lons), left-to-judge h xs ys unbroken r)
   follows k x xs ys e r (b ∷ t) =
       one-byte room (scan 78 none h (nodeCount h) k x) (over xs z) (over ys w) b t ∙ ap (refused 1) (omega arith)
 
@@ -129,12 +112,12 @@ module _ (room : ℕ) (h : Header) (unbroken : brokenRule h ≡ 0) (z w : List �
     node-lines zero k x xs ys e r t =
         node-line zero k x xs ys
         (λ v y t f.
-        rw (le-ltb (k + 1) (nodeCount h) (omega arith), put-over xs z v k (r .lats) (omega (arith, few)), put-over ys w y k (r .lons) (omega (arith, few)))
+        rw (le-ltb (k + 1) (nodeCount h) (omega arith), over-set xs z v k (r .lats) (omega (arith, few)), over-set ys w y k (r .lons) (omega (arith, few)))
         (ends k v (xs ++ (v ∷ [])) (ys ++ (y ∷ [])) e (one-node r v y e f) t)) t
     node-lines (suc left) k x xs ys e r t =
         node-line (suc left) k x xs ys
         (λ v y t f.
-        rw (lt-ltb (k + 1) (nodeCount h) (omega arith), put-over xs z v k (r .lats) (omega (arith, few)), put-over ys w y k (r .lons) (omega (arith, few)))
+        rw (lt-ltb (k + 1) (nodeCount h) (omega arith), over-set xs z v k (r .lats) (omega (arith, few)), over-set ys w y k (r .lons) (omega (arith, few)))
         (ap (λ (j : ℕ). readFrom room (scan 63 none h (nodeCount h) j v) (over (xs ++ (v ∷ [])) z) (over (ys ++ (y ∷ [])) w) t) (add-one k)
         ∙ node-lines left (suc k) v (xs ++ (v ∷ [])) (ys ++ (y ∷ [])) (omega arith) (one-node r v y (add-one k) f) t)) t
 

@@ -6,13 +6,12 @@ use mathlib.Core.List.{List, _++_}
 use native.Mathlib.Omega.{arith}
 use borrow.Author.Tests.{le-ltb}
 use lib.Dec.{ltb}
-use lib.ListN.{length, take, drop, length-append}
-use lib.Seq.{take-at}
+use lib.ListN.{length, take, drop}
 use lib.IntN.{ℤ, pos}
 use Rattle.laws.specs.Bytes.{bytes}
 use Rattle.figures.specs.Outcome.{Outcome, answered, refused, andThen, refuseIf, mapAnswer}
 use Rattle.figures.proofs.Laws.{answer-not-refusal, same-answer, both-answered}
-use Rattle.laws.specs.Over.{over}
+use Rattle.laws.specs.Over.{over, length-over, over-take}
 use Rattle.grid.specs.Rules.{nodeCount}
 use Rattle.grid.specs.Check.{layout, verdict, Passes}
 use Rattle.grid.specs.declared.Header.{Header}
@@ -57,8 +56,8 @@ module _ (text room : List ℕ) where
       let h = g .header in
       let x = over (g .lat) z in
       let y = over (g .lon) w in
-      let p : take (nodeCount h) x ≡ g .lat = take-at (g .lat) (drop (length (g .lat)) z) (nodeCount h) (a .lats) in
-      let q : take (nodeCount h) y ≡ g .lon = take-at (g .lon) (drop (length (g .lon)) w) (nodeCount h) (a .lons) in (
+      let p : take (nodeCount h) x ≡ g .lat = over-take (g .lat) z (nodeCount h) (a .lats) in
+      let q : take (nodeCount h) y ≡ g .lon = over-take (g .lon) w (nodeCount h) (a .lons) in (
         front-passes h x y ((λ i. verdict h (p i) (q i)) ∙ a .passes),
         ap (λ (t : List ℕ). (headerText h ++ t) ++ line (bytes "end=") (pos (nodeCount h)))
             (lines-front (g .lat) (g .lon) (drop (length (g .lat)) z) (drop (length (g .lon)) w) (nodeCount h) (omega (arith, a .lats)) (omega (arith, a .lons)))
@@ -116,12 +115,10 @@ module _ (h : Header) (lat lon : List ℤ) where
       stands = v ∙ ap (λ (k : Outcome ℕ). roomAfter k text room) f
 
       pub lent : n ≤ length after
-      unfolding over
-      lent = omega (arith, ap length stands, length-append text (drop (length text) room), wrote .1)
+      lent = omega (arith, ap length stands, length-over text room (omega (arith, text-length h lat lon (wrote .0))), wrote .1, text-length h lat lon (wrote .0))
 
       pub lent-text : take n after ≡ text
-      unfolding over
-      lent-text = ap (take n) stands ∙ take-at text (drop (length text) room) n (sym (wrote .1))
+      lent-text = ap (take n) stands ∙ over-take text room n (sym (wrote .1))
 
       pub grid-again : (lats lons : List ℤ) {r : Outcome Header} {lats′ lons′ : List ℤ}
           → r ≡ mapAnswer headerOf (reading (take n after) lats lons)
