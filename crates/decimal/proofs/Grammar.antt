@@ -1,7 +1,7 @@
 -- The texts that are numbers are the spelled numbers, and those whose bytes are all pushed.
 use Prim.Native.Nat.{ℕ, zero, suc, _+_, _-_, _*_, _%_, _/_, _^_, _≤_, _<_}
 use mathlib.Core.Path.{_≡_, refl, sym, ap, _∙_, subst}
-use mathlib.Core.Bool.{Bool, true, false, not, _&&_, _||_, false≢true}
+use mathlib.Core.Bool.{true, false, not, _&&_, _||_, false≢true}
 use mathlib.Core.List.{List, [], _∷_, _++_, append-assoc, append-nil}
 use mathlib.Core.Option.{Option, none as nothing, some, Option·some-injective, Option·some-ne-none}
 use native.Mathlib.Omega.{arith}
@@ -10,7 +10,7 @@ use borrow.Author.Tests.{le-leb, leb-true, ne-eqb, eqb-true, eqb-false, not-true
 use lib.ListN.{length, getD, List·getD-append}
 use lib.Dec.{leb, eqb}
 use lib.IntN.{ℤ, pos, negsuc}
-use Rattle.laws.specs.Logic.{both, by-cond}
+use Rattle.laws.specs.Logic.{or-true, both, by-cond}
 use Rattle.decimal.specs.Spelling.{digits, spell, Short, isDigit, allDigits, valueFrom, isMagnitude, magnitudeIn, minus, plain, numberIn}
 use Rattle.decimal.specs.Pushing.{none, part, pushedAll}
 use Rattle.decimal.specs.declared.Number.{Number}
@@ -39,11 +39,7 @@ digits-head =
 
 no-lead : (n : ℕ) → (eqb (length (digits n)) 1 || not (eqb (getD (digits n) 0 0) 48)) ≡ true
 no-lead zero = rw (digits-small 0 (omega arith))
-no-lead (suc n) = rw (ne-eqb (getD (digits (suc n)) 0 0) 48 (omega (arith, digits-head (suc n) (omega arith)))) (or-true (eqb (length (digits (suc n))) 1))
-  where
-    or-true : (p : Bool) → (p || true) ≡ true
-    or-true true = refl
-    or-true false = refl
+no-lead (suc n) = rw (ne-eqb (getD (digits (suc n)) 0 0) 48 (omega (arith, digits-head (suc n) (omega arith)))) (or-true (eqb (length (digits (suc n))) 1) true refl)
 
 -- ---- digits with no 0 before them are the spelling of what they say
 

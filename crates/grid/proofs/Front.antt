@@ -1,23 +1,24 @@
 -- The checks look at the first rows × cols elements of each slice alone.
 use Prim.Native.Nat.{ℕ, _+_, _*_, _%_, _<_}
-use mathlib.Core.Path.{_≡_, refl, sym, _∙_}
+use mathlib.Core.Path.{_≡_, refl}
 use mathlib.Core.Bool.{Bool, true, false, _&&_, _||_}
 use mathlib.Core.List.{List}
 use native.Mathlib.Omega.{arith}
-use borrow.Author.Tests.{ltb-true}
+use borrow.Author.Tests.{ltb-true, ltb-false, lt-ltb, le-ltb}
 use lib.Dec.{ltb}
-use lib.ListN.{take, length-take}
-use lib.Seq.{getD-take, length-take-le}
+use lib.ListN.{length, take, length-take}
+use lib.Seq.{getD-take}
 use lib.IntN.{ℤ, pos}
 use Rattle.laws.specs.First.{first-same}
+use Rattle.figures.specs.Outcome.{Outcome, answered, refused, andThen}
 use Rattle.grid.specs.Rules.{shape, nodeCount}
 use Rattle.grid.specs.Nodes.{node, beyondRange, outOfRange, tooSteep, steepEast, steepNorth, steepNode, steepAt}
-use Rattle.grid.specs.Check.{steepness, nodesVerdict, verdict, Passes}
+use Rattle.grid.specs.Check.{layout, steepness, nodesVerdict, verdict}
 use Rattle.grid.specs.declared.Header.{Header}
 use Rattle.grid.specs.declared.Shape.{Shape}
 use Rattle.grid.proofs.RuleLaws.{extent}
 use Rattle.grid.proofs.NodeLaws.{east-in}
-use Rattle.grid.proofs.Passing.{room, good, layout-passes, laid}
+use Rattle.grid.proofs.Passing.{laid}
 
 module _ (s : Shape) (some-cols : 0 < s .cols) where
   abbrev n : ℕ
@@ -45,27 +46,25 @@ module _ (s : Shape) (some-cols : 0 < s .cols) where
         first-same (steepAt s (take n lat) (take n lon)) (steepAt s lat lon) n (λ j l i. steep-front lat j l i || steep-front lon j l i),
       )
 
-pub passes-front : (h : Header) (lat lon : List ℤ) → Passes h lat lon → Passes h (take (nodeCount h) lat) (take (nodeCount h) lon)
-unfolding verdict
-passes-front h lat lon p =
-    let g = good h lat lon p in
-    let l = laid h lat lon (g .laid-out) in
-    let c = extent (g .header) in
-    sym (layout-passes h (take (nodeCount h) lat) (take (nodeCount h) lon)
-    (room h (take (nodeCount h) lat) (take (nodeCount h) lon) (g .unbroken)
-    (omega (arith, length-take-le (nodeCount h) lat (l .room-lat))) (omega (arith, length-take-le (nodeCount h) lon (l .room-lon)))))
-    ∙ nodes-front (shape h) (omega (arith, c .cols-low)) lat lon
-    ∙ layout-passes h lat lon (sym (g .laid-out))
-    ∙ p
+module _ (h : Header) (lat lon : List ℤ) where
+  abbrev count : ℕ
+  count = nodeCount h
 
-pub front-passes : (h : Header) (lat lon : List ℤ) → Passes h (take (nodeCount h) lat) (take (nodeCount h) lon) → Passes h lat lon
-unfolding verdict
-front-passes h lat lon p =
-    let g = good h (take (nodeCount h) lat) (take (nodeCount h) lon) p in
-    let l = laid h (take (nodeCount h) lat) (take (nodeCount h) lon) (g .laid-out) in
-    let c = extent (g .header) in
-    sym (layout-passes h lat lon (room h lat lon (g .unbroken)
-    (omega (arith, l .room-lat, length-take (nodeCount h) lat)) (omega (arith, l .room-lon, length-take (nodeCount h) lon))))
-    ∙ sym (nodes-front (shape h) (omega (arith, c .cols-low)) lat lon)
-    ∙ layout-passes h (take (nodeCount h) lat) (take (nodeCount h) lon) (sym (g .laid-out))
-    ∙ p
+  short-front : (S : List ℤ) → ltb (length (take count S)) count ≡ ltb (length S) count
+  short-front S = go (ltb (length S) count) refl
+    where
+      go : (t : Bool) → ltb (length S) count ≡ t → ltb (length (take count S)) count ≡ t
+      go true e = lt-ltb (length (take count S)) count (omega (arith, length-take count S, ltb-true (length S) count e))
+      go false e = le-ltb (length (take count S)) count (omega (arith, length-take count S, ltb-false (length S) count e))
+
+  layout-front : layout h (take count lat) (take count lon) ≡ layout h lat lon
+  unfolding layout
+  layout-front = rw (short-front lat, short-front lon)
+
+  pub verdict-front : verdict h (take count lat) (take count lon) ≡ verdict h lat lon
+  unfolding verdict
+  verdict-front = rw layout-front (go (layout h lat lon) refl)
+    where
+      go : (o : Outcome Unit) → layout h lat lon ≡ o → andThen o (nodesVerdict (shape h) (take count lat) (take count lon)) ≡ andThen o (nodesVerdict (shape h) lat lon)
+      go (answered tt) e = nodes-front (shape h) (omega (arith, extent (laid h lat lon e .header) .cols-low)) lat lon
+      go (refused n k) e = refl

@@ -16,7 +16,7 @@ use Rattle.grid.specs.Rules.{nodeCount}
 use Rattle.grid.specs.Check.{layout, verdict, Passes}
 use Rattle.grid.specs.declared.Header.{Header}
 use Rattle.grid.proofs.Passing.{good}
-use Rattle.grid.proofs.Front.{front-passes}
+use Rattle.grid.proofs.Front.{verdict-front}
 use Rattle.grid_text.specs.Text.{headerText, line, gridText}
 use Rattle.grid_text.specs.Writing.{writing, roomAfter}
 use Rattle.grid_text.proofs.Lengths.{text-length}
@@ -58,7 +58,7 @@ module _ (text room : List ℕ) where
       let y = over (g .lon) w in
       let p : take (nodeCount h) x ≡ g .lat = over-take (g .lat) z (nodeCount h) (a .lats) in
       let q : take (nodeCount h) y ≡ g .lon = over-take (g .lon) w (nodeCount h) (a .lons) in (
-        front-passes h x y ((λ i. verdict h (p i) (q i)) ∙ a .passes),
+        sym (verdict-front h x y) ∙ (λ i. verdict h (p i) (q i)) ∙ a .passes,
         ap (λ (t : List ℕ). (headerText h ++ t) ++ line (bytes "end=") (pos (nodeCount h)))
             (lines-front (g .lat) (g .lon) (drop (length (g .lat)) z) (drop (length (g .lon)) w) (nodeCount h) (omega (arith, a .lats)) (omega (arith, a .lons)))
             ∙ sym (a .same),
@@ -117,7 +117,7 @@ module _ (h : Header) (lat lon : List ℤ) where
       pub lent : n ≤ length after
       lent = omega (arith, ap length stands, length-over text room (omega (arith, text-length h lat lon (wrote .0))), wrote .1, text-length h lat lon (wrote .0))
 
-      pub lent-text : take n after ≡ text
+      lent-text : take n after ≡ text
       lent-text = ap (take n) stands ∙ over-take text room n (sym (wrote .1))
 
       pub grid-again : (lats lons : List ℤ) {r : Outcome Header} {lats′ lons′ : List ℤ}

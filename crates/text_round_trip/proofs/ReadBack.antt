@@ -20,7 +20,7 @@ use Rattle.grid.specs.declared.Header.{Header}
 use Rattle.grid.proofs.RuleLaws.{Between, between-within, extent}
 use Rattle.grid.proofs.NodeLaws.{not-beyond}
 use Rattle.grid.proofs.Passing.{Good, good, laid, passes-steepness}
-use Rattle.grid.proofs.Front.{passes-front}
+use Rattle.grid.proofs.Front.{verdict-front}
 use Rattle.grid_text.specs.Text.{line, headerText, nodeLine, nodeLines, gridText}
 use Rattle.grid_reader.specs.Reading.{Grid, word, field, newline, comma, nothing, header, ending, nodes, reading}
 use Rattle.text_round_trip.proofs.Parsing.{fixed-here, word-here}
@@ -94,7 +94,7 @@ module _ (h : Header) (lat lon : List ℤ) (p : Passes h lat lon) where
   end-here =
       ap (λ (q : List ℕ). field (9 + n) newline (bytes "end=") q next) (sym (append-nil (line (bytes "end=") (pos n))))
       ∙ line-here (9 + n) (bytes "end=") [] (pos n) next (omega (arith, extent (checked .header) .nodes))
-      ∙ rw (eqZ-true {a = pos n} refl, passes-steepness h (take n lat) (take n lon) (passes-front h lat lon p))
+      ∙ rw (eqZ-true {a = pos n} refl, passes-steepness h (take n lat) (take n lon) (verdict-front h lat lon ∙ p))
     where
       grid : Grid
       grid = record { header = h; lat = take n lat; lon = take n lon }
