@@ -4,6 +4,7 @@ pub mod Digits
 pub mod Grown
 pub mod Spelled
 pub mod Grammar
+pub mod Whole
 pub mod Over
 pub mod Magnitude
 pub mod Lengths

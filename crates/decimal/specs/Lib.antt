@@ -1,3 +1,4 @@
 pub mod Spelling
 pub mod Pushing
+pub mod Reading
 pub mod Wrote

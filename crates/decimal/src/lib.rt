@@ -5,7 +5,8 @@ mod writing;
 ghost use mathlib.Core.Path.{_≡_};
 ghost use Prim.Native.Nat.{_≤_};
 ghost use lib.ListN.{length};
-ghost use Rattle.decimal.specs.Spelling.{spell};
+ghost use Rattle.decimal.specs.Spelling.{spell, numberIn};
+ghost use Rattle.decimal.specs.Reading.{outcome};
 ghost use Rattle.decimal.specs.Wrote.{written};
 
 // A number as far as its text was read.
@@ -19,6 +20,35 @@ pub struct Number {
 pub enum Pushed {
     Grown(Number),
     Refused,
+}
+
+// What a whole text is.
+pub enum NumberRead {
+    Number(i64),
+    Refused,
+}
+
+// The number that a text is.
+pub fn read_number(text: &[u8]) -> NumberRead
+    ensures { λ r. ⌜ outcome r ≡ numberIn (now (text .entry)) ⌝ }
+{
+    let mut number = Number::new();
+    let mut i: usize = 0;
+    while i < text.len() {
+        match number.push(text[i]) {
+            Pushed::Grown(next) => {
+                number = next;
+            }
+            Pushed::Refused => {
+                return NumberRead::Refused;
+            }
+        }
+        i += 1;
+    }
+    if number.begun {
+        return NumberRead::Number(number.value());
+    }
+    NumberRead::Refused
 }
 
 // The bytes that a number takes.

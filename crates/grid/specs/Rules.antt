@@ -1,7 +1,8 @@
 -- The rules of the header (document 01, "Header rules, in order").
 use Prim.Native.Nat.{ℕ, suc, _*_}
-use mathlib.Core.Bool.{Bool, true, false, _&&_}
+use mathlib.Core.Bool.{Bool, true, false, _&&_, cond}
 use mathlib.Core.List.{List, [], _∷_}
+use lib.Dec.{eqb}
 use lib.IntN.{ℤ, pos, negℤ, _+ℤ_, _-ℤ_, _*ℤ_}
 use lib.Signed.{leZ}
 use Rattle.laws.specs.Parts.{posPart}
@@ -63,3 +64,7 @@ shape h = record { rows = posPart (h .rows); cols = posPart (h .cols); dlat = po
 -- rows × cols
 abbrev pub nodeCount : Header → ℕ
 nodeCount h = shape h .rows * shape h .cols
+
+-- the same of any header: 0 where a rule is broken
+unfoldable pub nodesOf : Header → ℕ
+nodesOf h = cond (eqb (brokenRule h) 0) (nodeCount h) 0

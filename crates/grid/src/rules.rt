@@ -2,9 +2,10 @@
 use super::Header;
 use super::Shape;
 ghost use mathlib.Core.Path.{_≡_};
+ghost use Prim.Native.Nat.{_≤_};
 ghost use lib.Signed.{leZ};
 ghost use Rattle.laws.specs.Parts.{posPart, Within};
-ghost use Rattle.grid.specs.Rules.{between, lastNode, firstFalse, sizeRules, rules, brokenRule, shape};
+ghost use Rattle.grid.specs.Rules.{between, lastNode, firstFalse, sizeRules, rules, brokenRule, shape, nodesOf};
 ghost use Rattle.grid.specs.Needs.{Sized};
 
 impl Header {
@@ -45,6 +46,17 @@ impl Header {
             dlat: natural(self.dlat),
             dlon: natural(self.dlon),
         }
+    }
+
+    // The number of nodes, or 0 where the header breaks a rule.
+    pub fn nodes(self) -> usize
+        ensures { λ r. ⌜ (r ≡ nodesOf self) × (r ≤ 2048) ⌝ }
+    {
+        if self.broken_rule() != 0 {
+            return 0;
+        }
+        let shape = self.shape();
+        shape.rows * shape.cols
     }
 }
 

@@ -18,6 +18,7 @@ use Rattle.decimal.proofs.Grown.{good-none, value-small, good-spelled}
 use Rattle.grid.specs.Rules.{brokenRule, nodeCount}
 use Rattle.grid.specs.Nodes.{beyondRange}
 use Rattle.grid.specs.declared.Header.{Header}
+use Rattle.lines.specs.Text.{pairLine}
 use Rattle.grid_text.specs.Text.{headerText, nodeLine, nodeLines}
 use Rattle.grid_reader.specs.Scan.{form, formAt, lineEnd, linesBefore, lineAt, scan, filled, headerNumberEnd, headerEnd, nodeEnd, countEnd, closed}
 use Rattle.grid_reader.specs.SoFar.{numberAt, filledForm, linesSoFar, soFar}
@@ -145,7 +146,7 @@ module _ (room : ℕ) (n : Number) (h : Header) (c k : ℕ) (x : ℤ) (lat lon :
       (three (headerText h ++ nodeLines lat lon k) (filledForm (λ _. x) 63 5) (spell (valueOf n)) (44 ∷ [])) (omega arith)
 
   lon-ends : Ends 70
-  unfolding closed nodeEnd form linesBefore lineEnd linesSoFar filledForm nodeLine
+  unfolding closed nodeEnd form linesBefore lineEnd linesSoFar filledForm nodeLine pairLine
   lon-ends r =
       by-test (After 10) (beyondRange x || beyondRange (valueOf n)) (λ _. tt)
       (λ _. by-test (After 10) (ltb (k + 1) c)

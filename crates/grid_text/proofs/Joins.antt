@@ -1,30 +1,18 @@
 -- The texts as their writers put them together: a front, and the parts behind it.
 use Prim.Native.Nat.{ℕ}
-use mathlib.Core.Path.{_≡_, refl, sym, ap}
-use mathlib.Core.List.{List, [], _∷_, _++_, append-assoc}
+use mathlib.Core.Path.{_≡_, refl}
+use mathlib.Core.List.{List, [], _∷_}
 use lib.IntN.{ℤ, pos}
 use mir.Syntax.{w64}
 use mir.Val.{SFits}
 use mir.Facts.{toZ-ofZ}
 use Rattle.laws.specs.Expr.{machine}
 use Rattle.laws.specs.Bytes.{bytes}
-use Rattle.decimal.specs.Spelling.{spell}
 use Rattle.decimal.proofs.Over.{joined}
+use Rattle.lines.specs.Text.{line}
 use Rattle.grid.specs.Rules.{nodeCount}
 use Rattle.grid.specs.declared.Header.{Header}
-use Rattle.grid_text.specs.Text.{line, headerText, nodeLine, nodeLines, gridText}
-
--- the newline
-abbrev pub newline : List ℕ
-newline = bytes "\n"
-
-pub line-joins : (key : List ℕ) (x : ℤ) → joined (key ++ spell x) (newline ∷ []) ≡ line key x
-unfolding line
-line-joins key x = refl
-
-pub node-joins : (a b : ℤ) → joined (bytes "node=" ++ spell a) ((bytes "," ++ spell b) ∷ newline ∷ []) ≡ nodeLine a b
-unfolding nodeLine
-node-joins a b = ap (λ (t : List ℕ). t ++ newline) (sym (append-assoc (bytes "node=" ++ spell a) (bytes ",") (spell b)))
+use Rattle.grid_text.specs.Text.{headerText, nodeLines, gridText}
 
 -- behind the titles, of the numbers as the machine has them
 abbrev pub headerLines : Header → List (List ℕ)

@@ -15,6 +15,8 @@ use Rattle.laws.specs.Bytes.{bytes}
 use Rattle.decimal.specs.Spelling.{spell}
 use Rattle.decimal.proofs.Lengths.{length-spell}
 use Rattle.decimal.proofs.Digits.{lt-or-ge}
+use Rattle.lines.specs.Text.{line, pairLine}
+use Rattle.lines.proofs.Lengths.{length-line, length-pair}
 use Rattle.grid.specs.Rules.{nodeCount}
 use Rattle.grid.specs.declared.Header.{Header}
 use Rattle.grid.specs.Nodes.{node}
@@ -22,22 +24,18 @@ use Rattle.grid.specs.Check.{Passes}
 use Rattle.grid.specs.Needs.{InRange}
 use Rattle.grid.proofs.RuleLaws.{Between, between-within, RulesHold, extent}
 use Rattle.grid.proofs.Passing.{good}
-use Rattle.grid_text.specs.Text.{line, headerText, nodeLine, nodeLines, gridText}
-
-pub length-line : (key : List ℕ) (x : ℤ) → length (line key x) ≡ length key + length (spell x) + 1
-unfolding line
-length-line key x = simp length-append
+use Rattle.grid_text.specs.Text.{headerText, nodeLine, nodeLines, gridText}
 
 pub length-node : (a b : ℤ) → length (nodeLine a b) ≡ length (spell a) + length (spell b) + 7
 unfolding nodeLine
-length-node a b = simp length-append (omega arith)
+length-node a b = omega (arith, length-pair (bytes "node=") a b)
 
 pub length-header : (h : Header) → length (headerText h) ≡ 20 + length (line (bytes "south=") (h .south .0)) + length (line (bytes "west=") (h .west .0)) + length (line (bytes "dlat=") (h .dlat)) + length (line (bytes "dlon=") (h .dlon)) + length (line (bytes "rows=") (h .rows)) + length (line (bytes "cols=") (h .cols))
 unfolding headerText
 length-header h = simp length-append (omega arith)
 
-pub nodes-next : (lat lon : List ℤ) (k : ℕ) → nodeLines lat lon (k + 1) ≡ nodeLines lat lon k ++ nodeLine (node lat k) (node lon k)
-unfolding nodeLines
+pub nodes-next : (lat lon : List ℤ) (k : ℕ) → nodeLines lat lon (k + 1) ≡ nodeLines lat lon k ++ pairLine (bytes "node=") (node lat k) (node lon k)
+unfolding nodeLines nodeLine
 nodes-next lat lon k = rw add-one
 
 -- fewer nodes take no more bytes

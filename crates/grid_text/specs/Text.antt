@@ -3,14 +3,10 @@ use Prim.Native.Nat.{ℕ, zero, suc}
 use mathlib.Core.List.{List, [], _++_}
 use lib.IntN.{ℤ, pos}
 use Rattle.laws.specs.Bytes.{bytes}
-use Rattle.decimal.specs.Spelling.{spell}
+use Rattle.lines.specs.Text.{line, pairLine}
 use Rattle.grid.specs.Rules.{nodeCount}
 use Rattle.grid.specs.Nodes.{node}
 use Rattle.grid.specs.declared.Header.{Header}
-
--- `key=NUMBER`
-unfoldable pub line : (key : List ℕ) → ℤ → List ℕ
-line key x = key ++ spell x ++ bytes "\n"
 
 unfoldable pub headerText : Header → List ℕ
 headerText h =
@@ -25,7 +21,7 @@ headerText h =
 
 -- `node=LAT,LON`
 unfoldable pub nodeLine : (lat lon : ℤ) → List ℕ
-nodeLine a b = bytes "node=" ++ spell a ++ bytes "," ++ spell b ++ bytes "\n"
+nodeLine a b = pairLine (bytes "node=") a b
 
 -- the lines of the first k nodes
 unfoldable pub nodeLines : (lat lon : List ℤ) → (k : ℕ) → List ℕ

@@ -1,24 +1,19 @@
 // A grid written as text.
-mod lines;
 mod measure;
 mod parts;
 
 use figures::Refusal;
 use grid::Checked;
 use grid::Header;
+use lines::Written;
 ghost use mathlib.Core.Path.{_≡_};
 ghost use Prim.Native.Nat.{_≤_};
 ghost use lib.ListN.{length};
+ghost use Rattle.lines.specs.Writing.{outcome, roomAfter, fitted};
 ghost use Rattle.grid.specs.Rules.{brokenRule, nodeCount};
 ghost use Rattle.grid_text.specs.Text.{gridText};
-ghost use Rattle.grid_text.specs.Writing.{outcome, writing, roomAfter};
-ghost use Rattle.grid_text.specs.Needs.{Ready, fitted};
-
-pub enum Written {
-    // The number of bytes of the text, which is at the front of the room.
-    Bytes(usize),
-    Refused(Refusal),
-}
+ghost use Rattle.grid_text.specs.Writing.{writing};
+ghost use Rattle.grid_text.specs.Needs.{Ready};
 
 // Writes a grid that passes the checks into the front of the room, if the room is long enough.
 pub fn write<'a>(h: Header, lat: &'a [i64], lon: &'a [i64], room: &mut [u8]) -> Written

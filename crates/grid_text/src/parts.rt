@@ -1,14 +1,12 @@
 // The writers of the parts of a grid, line by line: each line goes into what remains of the room.
-use super::lines::put_line;
-use super::lines::put_node;
-use super::lines::put_text;
 use super::node_count;
 use grid::Header;
 ghost use Prim.Native.Nat.{_+_, _≤_};
 ghost use mathlib.Core.List.{_++_};
 ghost use lib.ListN.{length, take};
 ghost use Rattle.decimal.specs.Wrote.{Wrote};
-ghost use Rattle.grid_text.specs.Text.{line, headerText, nodeLines, gridText};
+ghost use Rattle.lines.specs.Text.{line};
+ghost use Rattle.grid_text.specs.Text.{headerText, nodeLines, gridText};
 ghost use Rattle.grid_text.specs.Needs.{Ready};
 
 // A line from the place `at` on; what stands before it stays. The answer is the place behind the line.
@@ -16,7 +14,7 @@ fn add_line(key: &[u8], x: i64, at: usize, room: &mut [u8]) -> usize
     requires { ⌜ at + length (line (now key) x) ≤ length (now room) ⌝ }
     ensures { λ r. ⌜ Wrote (take at (now (room .entry)) ++ line (now (key .entry)) x) (now (room .entry)) (now (room .exit)) r ⌝ }
 {
-    at + put_line(key, x, &mut room[at..])
+    at + lines::write_line(key, x, &mut room[at..])
 }
 
 fn put_header(h: Header, room: &mut [u8]) -> usize
@@ -25,7 +23,7 @@ fn put_header(h: Header, room: &mut [u8]) -> usize
 {
     let south = h.south;
     let west = h.west;
-    let mut at = put_text(b"from=NAD27\nto=NAD83\n", room);
+    let mut at = lines::write_text(b"from=NAD27\nto=NAD83\n", room);
     at = add_line(b"south=", south.0, at, room);
     at = add_line(b"west=", west.0, at, room);
     at = add_line(b"dlat=", h.dlat, at, room);
@@ -43,7 +41,7 @@ fn put_nodes<'a>(lat: &'a [i64], lon: &'a [i64], n: usize, room: &mut [u8]) -> u
     let mut at: usize = 0;
     let mut k: usize = 0;
     while k < n {
-        at += put_node(lat[k], lon[k], &mut room[at..]);
+        at += lines::write_pair(b"node=", lat[k], lon[k], &mut room[at..]);
         k += 1;
     }
     at

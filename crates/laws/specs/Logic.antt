@@ -63,6 +63,11 @@ eqZ-true {a} e = rw (e, leZ-true (≤ℤ-refl _))
 
 -- ---- a value by a test
 
+-- what holds of both answers holds of every test
+pub either-way : (P : Bool → Type 0) (p : Bool) → P true → P false → P p
+either-way P true t f = t
+either-way P false t f = f
+
 -- what holds of both sides of a test holds of the value
 pub by-test : {A : Type 0} (P : A → Type 0) (p : Bool) {x y : A} → (p ≡ true → P x) → (p ≡ false → P y) → P (cond p x y)
 by-test P true f g = f refl

@@ -19,7 +19,8 @@ use Rattle.grid.specs.Nodes.{beyondRange}
 use Rattle.grid.specs.Check.{layout, steepness, Passes}
 use Rattle.grid.specs.declared.Header.{Header}
 use Rattle.grid.proofs.Passing.{laid}
-use Rattle.grid_text.specs.Text.{line, headerText, nodeLine, nodeLines, gridText}
+use Rattle.lines.specs.Text.{line, pairLine}
+use Rattle.grid_text.specs.Text.{headerText, nodeLine, nodeLines, gridText}
 use Rattle.grid_reader.specs.Reading.{Grid, word, field, newline, comma, nothing, header, ending, nodes, reading}
 use Rattle.grid_reader.proofs.NodesSoFar.{NodesSoFar, no-node, one-node, left-to-judge}
 use Rattle.text_round_trip.proofs.Parsing.{fixed-there, word-there}
@@ -71,7 +72,7 @@ nothing-there n [] o e = (refl, e)
 nothing-there n (b ∷ t) o e = absurd (answer-not-refusal (sym e))
 
 pub node-text : (a b : ℤ) (u : List ℕ) → bytes "node=" ++ (spell a ++ (comma ∷ (spell b ++ (newline ∷ u)))) ≡ nodeLine a b ++ u
-unfolding nodeLine
+unfolding nodeLine pairLine
 node-text a b u = go (bytes "node=") (spell a) (bytes ",") (spell b) (bytes "\n")
   where
     go : (p q r s t : List ℕ) → p ++ (q ++ (r ++ (s ++ (t ++ u)))) ≡ (p ++ q ++ r ++ s ++ t) ++ u

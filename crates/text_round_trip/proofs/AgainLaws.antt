@@ -9,7 +9,7 @@ use lib.Dec.{ltb}
 use lib.ListN.{length, take, drop}
 use lib.IntN.{ℤ, pos}
 use Rattle.laws.specs.Bytes.{bytes}
-use Rattle.figures.specs.Outcome.{Outcome, answered, refused, andThen, refuseIf, mapAnswer}
+use Rattle.figures.specs.Outcome.{Outcome, answered, refused, andThen, mapAnswer}
 use Rattle.figures.proofs.Laws.{answer-not-refusal, same-answer, both-answered}
 use Rattle.laws.specs.Over.{over, length-over, over-take}
 use Rattle.grid.specs.Rules.{nodeCount}
@@ -17,8 +17,10 @@ use Rattle.grid.specs.Check.{layout, verdict, Passes}
 use Rattle.grid.specs.declared.Header.{Header}
 use Rattle.grid.proofs.Passing.{good}
 use Rattle.grid.proofs.Front.{verdict-front}
-use Rattle.grid_text.specs.Text.{headerText, line, gridText}
-use Rattle.grid_text.specs.Writing.{writing, roomAfter}
+use Rattle.lines.specs.Text.{line}
+use Rattle.lines.specs.Writing.{roomAfter, fitted}
+use Rattle.grid_text.specs.Text.{headerText, gridText}
+use Rattle.grid_text.specs.Writing.{writing}
 use Rattle.grid_text.proofs.Lengths.{text-length}
 use Rattle.grid_reader.specs.Reading.{Grid, headerOf, reading, latAfter, lonAfter}
 use Rattle.text_round_trip.specs.Again.{scratch, textAgain, gridAgain, nodesAgain}
@@ -87,13 +89,13 @@ module _ (h : Header) (lat lon : List ℤ) where
   -- a room of 48,000 bytes is enough
   module _ (room : List ℕ) (long : length room ≡ 48000) where
     fits : Passes h lat lon → writing h lat lon room ≡ answered (length text)
-    unfolding writing
+    unfolding writing fitted
     fits p = rw (p, le-ltb (length room) (length text) (omega (arith, text-length h lat lon p)))
 
     written : {n : ℕ} → answered n ≡ writing h lat lon room → Passes h lat lon × (n ≡ length text)
     unfolding writing
     written e =
-        let p = both-answered (verdict h lat lon) (refuseIf (ltb (length room) (length text)) 8 (length text) (answered (length text))) (sym e) .0 .1 in
+        let p = both-answered (verdict h lat lon) (fitted (length text) (length room)) (sym e) .0 .1 in
         (p, same-answer (e ∙ fits p))
 
     pub grid-refused : {n k : ℕ} (lats lons : List ℤ) → refused n k ≡ writing h lat lon room

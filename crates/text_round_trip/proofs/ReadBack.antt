@@ -21,7 +21,8 @@ use Rattle.grid.proofs.RuleLaws.{Between, between-within, extent}
 use Rattle.grid.proofs.NodeLaws.{not-beyond}
 use Rattle.grid.proofs.Passing.{Good, good, laid, passes-steepness}
 use Rattle.grid.proofs.Front.{verdict-front}
-use Rattle.grid_text.specs.Text.{line, headerText, nodeLine, nodeLines, gridText}
+use Rattle.lines.specs.Text.{line}
+use Rattle.grid_text.specs.Text.{headerText, nodeLine, nodeLines, gridText}
 use Rattle.grid_reader.specs.Reading.{Grid, word, field, newline, comma, nothing, header, ending, nodes, reading}
 use Rattle.text_round_trip.proofs.Parsing.{fixed-here, word-here}
 use Rattle.text_round_trip.proofs.Accepted.{node-text, header-text}

@@ -1,9 +1,9 @@
 // There and back in text, on the real reader and writer.
 use grid::Header;
 use grid_reader::GridRead;
-use grid_text::Written;
+use lines::Written;
 ghost use mathlib.Core.Path.{_≡_};
-ghost use Rattle.grid_text.specs.Writing.{outcome, roomAfter};
+ghost use Rattle.lines.specs.Writing.{outcome, roomAfter};
 ghost use Rattle.grid_reader.specs.Reading.{outcome as read-outcome};
 ghost use Rattle.text_round_trip.specs.Again.{textAgain, gridAgain, nodesAgain};
 

@@ -1,6 +1,6 @@
 use borrow.Author.Needs.{needs}
 use native.Mathlib.Omega.{arith}
-use Rattle.grid_text.proofs.Answers.{too-short, fits}
+use Rattle.lines.proofs.Answers.{too-short, fits}
 use Rattle.grid_text.proofs.write_checked.Statement.{statement}
 use Rattle.grid_text.proofs.write_checked.Tie as tie
 

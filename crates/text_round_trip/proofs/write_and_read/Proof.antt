@@ -3,7 +3,7 @@ use Prim.Native.Nat.{ℕ}
 use mathlib.Core.Path.{_≡_, sym, ap, _∙_}
 use lib.ListN.{length, replicate, length-replicate}
 use lib.Seq.{length-take-le}
-use Rattle.grid_text.specs.Writing.{outcome}
+use Rattle.lines.specs.Writing.{outcome}
 use Rattle.text_round_trip.proofs.AgainLaws.{lent, grid-refused, grid-again}
 use Rattle.text_round_trip.proofs.write_and_read.Statement.{statement}
 use Rattle.text_round_trip.proofs.write_and_read.Tie as tie

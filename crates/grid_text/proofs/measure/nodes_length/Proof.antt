@@ -12,29 +12,32 @@ use Rattle.grid_text.proofs.measure.nodes_length.Statement.{statement}
 use Rattle.grid_text.proofs.measure.nodes_length.Tie as tie
 
 abbrev Inv-loop : tie.InvT-loop
-Inv-loop lat lon n sum₀ k₀ sum k = (k ≤ n) × (sum ≤ 47 * k) × (sum ≡ length (nodeLines lat lon k))
+Inv-loop lat lon n sum₀ k₀ t5 sum k = (k ≤ n) × (sum ≤ 47 * k) × (sum ≡ length (nodeLines lat lon k))
 
 abbrev μ-loop : tie.MeasureT-loop
-μ-loop lat lon n sum₀ k₀ sum k = n - k
+μ-loop lat lon n sum₀ k₀ t5 sum k = n - k
 
 loop-holds : tie.Need-loop-holds Inv-loop μ-loop
 unfolding nodeLines
 loop-holds c = (omega arith, omega arith, refl)
 
-mul-node-length : tie.Need-mul-node-length Inv-loop μ-loop
-mul-node-length c = search needs
+slice-aggregate-pair-length : tie.Need-slice-aggregate-pair-length Inv-loop μ-loop
+slice-aggregate-pair-length c = search needs
 
-shared-slice-copy-out-node-length : tie.Need-shared-slice-copy-out-node-length Inv-loop μ-loop
-shared-slice-copy-out-node-length c = search needs
+mul-pair-length : tie.Need-mul-pair-length Inv-loop μ-loop
+mul-pair-length c = search needs
 
-mul-node-length-2 : tie.Need-mul-node-length-2 Inv-loop μ-loop
-mul-node-length-2 c = search needs
+shared-slice-copy-out-pair-length : tie.Need-shared-slice-copy-out-pair-length Inv-loop μ-loop
+shared-slice-copy-out-pair-length c = search needs
 
-shared-slice-copy-out-node-length-2 : tie.Need-shared-slice-copy-out-node-length-2 Inv-loop μ-loop
-shared-slice-copy-out-node-length-2 c = search needs
+mul-pair-length-2 : tie.Need-mul-pair-length-2 Inv-loop μ-loop
+mul-pair-length-2 c = search needs
 
-node-length-requires : tie.Need-node-length-requires Inv-loop μ-loop
-node-length-requires c κs = search needs
+shared-slice-copy-out-pair-length-2 : tie.Need-shared-slice-copy-out-pair-length-2 Inv-loop μ-loop
+shared-slice-copy-out-pair-length-2 c = search needs
+
+pair-length-requires : tie.Need-pair-length-requires Inv-loop μ-loop
+pair-length-requires c κs = search needs
 
 add-sum : tie.Need-add-sum Inv-loop μ-loop
 add-sum c = search needs
@@ -47,11 +50,11 @@ loop-less c = search needs
 
 loop-again : tie.Need-loop-again Inv-loop μ-loop
 loop-again c =
-    let a = c .before .before .before .before .before .args in
-    let k = c .before .before .before .before .loop .k in
-    let p : machine (node (a .lat .now) k) ≡ node (a .lat .now) k = element (c .before .before .node-length-arg .given) in
-    let q : machine (node (a .lon .now) k) ≡ node (a .lon .now) k = element (c .before .node-length-arg2 .given) in
-    let e = rw (p, q) at (c .node-length .ensures) in
+    let a = c .before .before .before .before .before .before .args in
+    let k = c .before .before .before .before .before .loop .k in
+    let p : machine (node (a .lat .now) k) ≡ node (a .lat .now) k = element (c .before .before .pair-length-arg2 .given) in
+    let q : machine (node (a .lon .now) k) ≡ node (a .lon .now) k = element (c .before .pair-length-arg3 .given) in
+    let e = rw (p, q) at (c .pair-length .ensures) in
     (search needs, search needs, rw (nodes-next (a .lat .now) (a .lon .now) k, length-append) (omega (arith, e)))
 
 returns : tie.Need-returns Inv-loop μ-loop
@@ -66,11 +69,12 @@ nodes-length-spec =
     Inv-loop
     μ-loop
     loop-holds
-    mul-node-length
-    shared-slice-copy-out-node-length
-    mul-node-length-2
-    shared-slice-copy-out-node-length-2
-    node-length-requires
+    slice-aggregate-pair-length
+    mul-pair-length
+    shared-slice-copy-out-pair-length
+    mul-pair-length-2
+    shared-slice-copy-out-pair-length-2
+    pair-length-requires
     add-sum
     add-k
     loop-less

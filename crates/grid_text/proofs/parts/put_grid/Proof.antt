@@ -4,7 +4,8 @@ use mathlib.Core.List.{[], _∷_}
 use Rattle.laws.specs.Bytes.{bytes}
 use Rattle.decimal.proofs.Over.{Progress, Next, first-part, part-start, part-room, part-place, part-end, next-part, part-behind, all-parts}
 use Rattle.decimal.proofs.Signs.{read-pos}
-use Rattle.grid_text.specs.Text.{line, nodeLines, gridText}
+use Rattle.lines.specs.Text.{line}
+use Rattle.grid_text.specs.Text.{nodeLines, gridText}
 use Rattle.grid_text.proofs.Joins.{grid-joins}
 use Rattle.grid_text.proofs.Lengths.{length-grid}
 use mir.Syntax.{w64}

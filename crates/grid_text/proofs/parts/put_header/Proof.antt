@@ -1,7 +1,7 @@
 -- The titles, and then each line behind the one before.
 use borrow.Author.Needs.{needs}
 use native.Mathlib.Omega.{arith}
-use Rattle.decimal.proofs.Over.{Progress, Next, first-part, part-place, part-behind, all-parts, wrote-long}
+use Rattle.decimal.proofs.Over.{Progress, Next, first-part, part-place, part-behind, all-parts, wrote-long, wrote}
 use Rattle.grid_text.specs.Text.{headerText}
 use Rattle.grid_text.proofs.Joins.{headerLines, header-joins}
 use Rattle.grid_text.proofs.Lengths.{length-header}
@@ -12,7 +12,8 @@ use Rattle.grid_text.proofs.parts.put_header.Tie as tie
 abbrev titles : (c : tie.After-slice-known2) → let a = c .before .before .before .before .before .before .before .before .args in Progress (headerText (a .h)) (a .room .now) (headerLines (a .h))
 titles c =
     let s = c .before .before .before .before .before .before .before .before in
-    first-part (c .before .before .put-text .ensures) (header-joins (s .args .h) (search needs) (search needs) (search needs) (search needs) (search needs) (search needs)) (s .pre)
+    let e = c .before .before .write-text .ensures in
+    first-part (wrote (e .0) (e .1) (omega (arith, s .pre, length-header (s .args .h)))) (header-joins (s .args .h) (search needs) (search needs) (search needs) (search needs) (search needs) (search needs)) (s .pre)
 
 abbrev south : (c : tie.After-slice-known3) → Next (titles (c .before .before .before .before .before .before))
 south c = part-behind (titles (c .before .before .before .before .before .before)) (c .before .before .add-line .ensures)
@@ -32,11 +33,11 @@ rows c = part-behind (dlon (c .before .before .before .before .before .before)) 
 abbrev cols : (c : tie.After-slice-known8) → Next (rows (c .before .before .before .before .before .before))
 cols c = part-behind (rows (c .before .before .before .before .before .before)) (c .before .before .add-line6 .ensures)
 
-slice-aggregate-put-text : tie.Need-slice-aggregate-put-text
-slice-aggregate-put-text c = search needs
+slice-aggregate-write-text : tie.Need-slice-aggregate-write-text
+slice-aggregate-write-text c = search needs
 
-put-text-requires : tie.Need-put-text-requires
-put-text-requires c κs = omega (arith, length-header (c .before .before .before .before .before .args .h))
+write-text-requires : tie.Need-write-text-requires
+write-text-requires c κs = search needs
 
 slice-aggregate-add-line : tie.Need-slice-aggregate-add-line
 slice-aggregate-add-line c = search needs
@@ -84,8 +85,8 @@ pub put-header-spec : {M : Type 1} → statement M
 put-header-spec =
     tie.close
     (tie.spec
-    slice-aggregate-put-text
-    put-text-requires
+    slice-aggregate-write-text
+    write-text-requires
     slice-aggregate-add-line
     add-line-requires
     slice-aggregate-add-line-2

@@ -4,61 +4,69 @@ use Prim.Native.Nat.{_+_, _-_, _≤_}
 use mathlib.Core.Path.{_≡_, sym}
 use mathlib.Core.List.{[], _∷_}
 use Rattle.laws.specs.Tests.{element}
-use Rattle.decimal.specs.Wrote.{Wrote}
-use Rattle.decimal.proofs.Over.{Progress, wrote-none, wrote-long, first-part, part-start, part-room, part-end, next-part, all-parts}
-use Rattle.grid.specs.Nodes.{node}
-use Rattle.grid_text.specs.Text.{nodeLine, nodeLines}
-use Rattle.grid_text.proofs.Lengths.{nodes-next, nodes-grow}
 use Rattle.laws.specs.Expr.{machine}
+use Rattle.laws.specs.Bytes.{bytes}
+use Rattle.decimal.specs.Wrote.{Wrote}
+use Rattle.decimal.proofs.Over.{Progress, Next, wrote-none, wrote-long, first-part, part-start, part-room, next-part, all-parts, wrote}
+use Rattle.lines.specs.Text.{pairLine}
+use Rattle.grid.specs.Nodes.{node}
+use Rattle.grid_text.specs.Text.{nodeLines}
+use Rattle.grid_text.proofs.Lengths.{nodes-next, nodes-grow}
 use Rattle.grid_text.proofs.parts.put_nodes.Statement.{statement}
 use Rattle.grid_text.proofs.parts.put_nodes.Tie as tie
 
 abbrev Inv-loop : tie.InvT-loop
-Inv-loop lat lon n room₀ at₀ k₀ room at k = (k ≤ n) × Wrote (nodeLines lat lon k) room₀ room at
+Inv-loop lat lon n room₀ at₀ k₀ t7 room at k = (k ≤ n) × Wrote (nodeLines lat lon k) room₀ room at
 
 abbrev μ-loop : tie.MeasureT-loop
-μ-loop lat lon n room₀ at₀ k₀ room at k = n - k
+μ-loop lat lon n room₀ at₀ k₀ t7 room at k = n - k
 
 -- k lines are done, and the next, of the shifts as the machine has them, has place
-abbrev before-done : (c : tie.After-put-node-arg2 Inv-loop μ-loop) → let a = c .before .before .before .before .before .args in let k = c .before .before .before .loop .k in Progress (nodeLines (a .lat .now) (a .lon .now) (k + 1)) (a .room .now) (nodeLine (machine (node (a .lat .now) k)) (machine (node (a .lon .now) k)) ∷ [])
+abbrev before-done : (c : tie.After-write-pair-arg3 Inv-loop μ-loop) → let a = c .before .before .before .before .before .before .args in let k = c .before .before .before .before .loop .k in Progress (nodeLines (a .lat .now) (a .lon .now) (k + 1)) (a .room .now) (pairLine (bytes "node=") (machine (node (a .lat .now) k)) (machine (node (a .lon .now) k)) ∷ [])
 before-done c =
-    let a = c .before .before .before .before .before .args in
-    let l = c .before .before .before .loop in
-    let p : machine (node (a .lat .now) (l .k)) ≡ node (a .lat .now) (l .k) = element (c .before .put-node-arg .given) in
-    let q : machine (node (a .lon .now) (l .k)) ≡ node (a .lon .now) (l .k) = element (c .put-node-arg2 .given) in
+    let a = c .before .before .before .before .before .before .args in
+    let l = c .before .before .before .before .loop in
+    let p : machine (node (a .lat .now) (l .k)) ≡ node (a .lat .now) (l .k) = element (c .before .write-pair-arg2 .given) in
+    let q : machine (node (a .lon .now) (l .k)) ≡ node (a .lon .now) (l .k) = element (c .write-pair-arg3 .given) in
     let g = nodes-grow (a .lat .now) (a .lon .now) (l .k + 1) (a .n) (omega arith) in
     first-part (l .inv .1) (rw (p, q) (sym (nodes-next (a .lat .now) (a .lon .now) (l .k)))) (omega arith)
+
+abbrev line-done : (c : tie.After-write-pair Inv-loop μ-loop) → Next (before-done (c .before .before))
+line-done c = let p = before-done (c .before .before) in next-part p (wrote (c .write-pair .ensures .0) (c .write-pair .ensures .1) (part-room p))
 
 loop-holds : tie.Need-loop-holds Inv-loop μ-loop
 unfolding nodeLines
 loop-holds c = (omega arith, wrote-none _)
 
-mul-put-node : tie.Need-mul-put-node Inv-loop μ-loop
-mul-put-node c = search needs
+slice-aggregate-write-pair : tie.Need-slice-aggregate-write-pair Inv-loop μ-loop
+slice-aggregate-write-pair c = search needs
 
-shared-slice-copy-out-put-node : tie.Need-shared-slice-copy-out-put-node Inv-loop μ-loop
-shared-slice-copy-out-put-node c = search needs
+mul-write-pair : tie.Need-mul-write-pair Inv-loop μ-loop
+mul-write-pair c = search needs
 
-mul-put-node-2 : tie.Need-mul-put-node-2 Inv-loop μ-loop
-mul-put-node-2 c = search needs
+shared-slice-copy-out-write-pair : tie.Need-shared-slice-copy-out-write-pair Inv-loop μ-loop
+shared-slice-copy-out-write-pair c = search needs
 
-shared-slice-copy-out-put-node-2 : tie.Need-shared-slice-copy-out-put-node-2 Inv-loop μ-loop
-shared-slice-copy-out-put-node-2 c = search needs
+mul-write-pair-2 : tie.Need-mul-write-pair-2 Inv-loop μ-loop
+mul-write-pair-2 c = search needs
 
-sub-put-node : tie.Need-sub-put-node Inv-loop μ-loop
-sub-put-node c = part-start (before-done c)
+shared-slice-copy-out-write-pair-2 : tie.Need-shared-slice-copy-out-write-pair-2 Inv-loop μ-loop
+shared-slice-copy-out-write-pair-2 c = search needs
 
-part-put-node-start : tie.Need-part-put-node-start Inv-loop μ-loop
-part-put-node-start c = part-start (before-done c)
+sub-write-pair : tie.Need-sub-write-pair Inv-loop μ-loop
+sub-write-pair c = part-start (before-done c)
 
-part-put-node-end : tie.Need-part-put-node-end Inv-loop μ-loop
-part-put-node-end c = search needs
+part-write-pair-start : tie.Need-part-write-pair-start Inv-loop μ-loop
+part-write-pair-start c = part-start (before-done c)
 
-put-node-requires : tie.Need-put-node-requires Inv-loop μ-loop
-put-node-requires c κs = part-room (before-done (c .before))
+part-write-pair-end : tie.Need-part-write-pair-end Inv-loop μ-loop
+part-write-pair-end c = search needs
+
+write-pair-requires : tie.Need-write-pair-requires Inv-loop μ-loop
+write-pair-requires c κs = search needs
 
 add-at : tie.Need-add-at Inv-loop μ-loop
-add-at c = omega (arith, part-end (before-done (c .before .before .before .before)) (c .before .before .put-node .ensures))
+add-at c = let p = line-done (c .before .before) in omega (arith, all-parts p .counted, p .room)
 
 add-k : tie.Need-add-k Inv-loop μ-loop
 add-k c = search needs
@@ -67,7 +75,7 @@ loop-less : tie.Need-loop-less Inv-loop μ-loop
 loop-less c = search needs
 
 loop-again : tie.Need-loop-again Inv-loop μ-loop
-loop-again c = (search needs, all-parts (next-part (before-done (c .before .before .before .before)) (c .before .before .put-node .ensures)))
+loop-again c = (search needs, all-parts (line-done (c .before .before)))
 
 same-length : tie.Need-same-length Inv-loop μ-loop
 same-length c =
@@ -85,14 +93,15 @@ put-nodes-spec =
     Inv-loop
     μ-loop
     loop-holds
-    mul-put-node
-    shared-slice-copy-out-put-node
-    mul-put-node-2
-    shared-slice-copy-out-put-node-2
-    sub-put-node
-    part-put-node-start
-    part-put-node-end
-    put-node-requires
+    slice-aggregate-write-pair
+    mul-write-pair
+    shared-slice-copy-out-write-pair
+    mul-write-pair-2
+    shared-slice-copy-out-write-pair-2
+    sub-write-pair
+    part-write-pair-start
+    part-write-pair-end
+    write-pair-requires
     add-at
     add-k
     loop-less

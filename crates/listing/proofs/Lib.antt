@@ -1,0 +1,6 @@
+pub mod Cuts
+pub mod Rooms
+pub mod Steps
+pub mod Holding
+pub mod Runs
+pub mod Whole

@@ -1,0 +1,49 @@
+use borrow.Author.Needs.{needs}
+use mathlib.Core.Path.{refl, sym, ap, _∙_}
+use Rattle.grid.specs.Check.{outcome as checked}
+use Rattle.lines.specs.Writing.{roomAfter}
+use Rattle.listing.specs.Listing.{listing}
+use Rattle.listing.proofs.Whole.{once-afresh}
+use Rattle.listing.proofs.list.Statement.{statement}
+use Rattle.listing.proofs.list.Tie as tie
+
+check-requires : tie.Need-check-requires
+check-requires c κs = search needs
+
+enum-known-why : tie.Need-enum-known-why
+enum-known-why c = search needs
+
+enum-told : tie.Need-enum-told
+enum-told c = search needs
+
+list-checked-requires : tie.Need-list-checked-requires
+list-checked-requires c κs = search needs
+
+returns : tie.Need-returns
+unfolding listing roomAfter
+returns c = (rw (← (ap checked (sym (c .before .why .given .1)) ∙ c .before .before .before .check .ensures)), refl)
+
+same-length : tie.Need-same-length
+same-length c = search needs
+
+returns-2 : tie.Need-returns-2
+unfolding listing
+returns-2 c =
+    let w = c .before .before in
+    let k = w .before .before in
+    let a = k .before .before .before .before .before .args in
+    let p = sym (k .before .before .check .ensures) ∙ ap checked (k .enum-told .given .1) in
+    let e = rw (once-afresh (a .h) (a .lat .now) (a .lon .now) p) at (w .list-checked .ensures) in
+    (rw p (e .0), e .1)
+
+pub list-spec : {M : Type 1} → statement M
+list-spec =
+    tie.close
+    (tie.spec
+    check-requires
+    enum-known-why
+    enum-told
+    list-checked-requires
+    returns
+    same-length
+    returns-2)

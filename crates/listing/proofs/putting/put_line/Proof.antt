@@ -1,0 +1,58 @@
+use borrow.Author.Needs.{needs}
+use mathlib.Core.Path.{sym}
+use lib.Seq.{length-take-le}
+use Rattle.requests.proofs.WordLaws.{found}
+use Rattle.listing.specs.Lines.{newline}
+use Rattle.listing.proofs.Steps.{stepped-held, stepped-line}
+use Rattle.listing.proofs.putting.put_line.Statement.{statement}
+use Rattle.listing.proofs.putting.put_line.Tie as tie
+
+find-requires : tie.Need-find-requires
+find-requires c κs = search needs
+
+hold-requires : tie.Need-hold-requires
+hold-requires c κs = search needs
+
+returns : tie.Need-returns
+returns c =
+    let f = c .before .before .find in
+    stepped-held _ _ _ _ (found newline _ (f .ensures .0)) (c .before .if1 .taken) (f .ensures .1) (c .hold .ensures)
+
+slice-aggregate-reply : tie.Need-slice-aggregate-reply
+slice-aggregate-reply c = sym (length-take-le _ _ (c .before .before .find .ensures .1))
+
+reply-requires : tie.Need-reply-requires
+reply-requires c κs = search needs
+
+write-requires : tie.Need-write-requires
+write-requires c κs = search needs
+
+count-requires : tie.Need-count-requires
+count-requires c κs = search needs
+
+add-t10 : tie.Need-add-t10
+add-t10 c = search needs
+
+same-length : tie.Need-same-length
+same-length c = search needs
+
+returns-2 : tie.Need-returns-2
+returns-2 c =
+    let r = c .before .before .before .before .before in
+    let f = r .before .before .before in
+    stepped-line _ _ _ _ (found newline _ (f .find .ensures .0)) (r .before .before .if1 .left) (r .reply .ensures) (c .count .ensures) (c .before .before .before .write .ensures)
+
+pub put-line-spec : {M : Type 1} → statement M
+put-line-spec =
+    tie.close
+    (tie.spec
+    find-requires
+    hold-requires
+    returns
+    slice-aggregate-reply
+    reply-requires
+    write-requires
+    count-requires
+    add-t10
+    same-length
+    returns-2)

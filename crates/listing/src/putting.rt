@@ -1,0 +1,138 @@
+// The writers of the parts of a list. In a room of no bytes they only count.
+use super::Listing;
+use super::tally::least;
+use super::tally::one_more;
+use super::tally::plus;
+use grid::Header;
+use requests::Reply;
+ghost use Prim.Native.Nat.{_<_};
+ghost use lib.ListN.{length};
+ghost use Rattle.requests.specs.Replies.{checkedOnce};
+ghost use Rattle.grid.specs.Rules.{nodesOf};
+ghost use Rattle.listing.specs.Listing.{listText};
+ghost use Rattle.listing.specs.Pieces.{fedText, endText};
+ghost use Rattle.listing.specs.Needs.{Enough, Roomy, Lacking, Stepped, Replied, Put};
+
+// What was done with a text: how many of its bytes were read and how many were written.
+pub(crate) struct Done {
+    pub list: Listing,
+    pub taken: usize,
+    pub bytes: usize,
+}
+
+// The bytes that the replies to a piece need, if the room is shorter, else 0. No reply takes more than 47, and each needs a byte of
+// the piece, so most rooms are known to be long enough with no reply worked out.
+pub(crate) fn lacking<'a>(
+    list: Listing,
+    h: Header,
+    lat: &'a [i64],
+    lon: &'a [i64],
+    piece: &[u8],
+    room: usize,
+) -> usize
+    requires { ⌜ room < 9223372036854775808 ⌝ }
+    ensures { λ r. ⌜ Lacking (fedText (checkedOnce h (now (lat .entry)) (now (lon .entry))) list (now (piece .entry))) (length (now (piece .entry))) room r ⌝ }
+{
+    if piece.len() <= room / Reply::MAX_TEXT {
+        return 0;
+    }
+    let mut none = [0u8; 1];
+    let done = put_replies(list, h, lat, lon, piece, &mut none[0..0]);
+    if room < done.bytes {
+        return done.bytes;
+    }
+    0
+}
+
+// The replies to the lines that end in a piece.
+pub(crate) fn put_replies<'a>(
+    list: Listing,
+    h: Header,
+    lat: &'a [i64],
+    lon: &'a [i64],
+    piece: &[u8],
+    room: &mut [u8],
+) -> Done
+    requires { ⌜ Roomy (fedText (checkedOnce h (now lat) (now lon)) list (now piece)) (length (now piece)) (now room) ⌝ }
+    ensures { λ r. ⌜ Replied (checkedOnce h (now (lat .entry)) (now (lon .entry))) list (now (piece .entry)) (now (room .entry)) (now (room .exit)) r ⌝ }
+{
+    let mut next = list.hold(&piece[0..0]);
+    let mut taken: usize = 0;
+    let mut bytes: usize = 0;
+    while taken < piece.len() {
+        let from = least(bytes, room.len());
+        let done = put_line(next, h, lat, lon, &piece[taken..], &mut room[from..]);
+        next = done.list;
+        taken += done.taken;
+        bytes = plus(bytes, done.bytes);
+    }
+    Done {
+        list: next,
+        taken,
+        bytes,
+    }
+}
+
+// The reply to the line that ends first in a text, if one does.
+fn put_line<'a>(
+    list: Listing,
+    h: Header,
+    lat: &'a [i64],
+    lon: &'a [i64],
+    text: &[u8],
+    room: &mut [u8],
+) -> Done
+    ensures { λ r. ⌜ Stepped (checkedOnce h (now (lat .entry)) (now (lon .entry))) list (now (text .entry)) (now (room .entry)) (now (room .exit)) r ⌝ }
+{
+    let end = bytes::scan::find(text, 0, text.len(), b'\n');
+    if text.len() <= end {
+        return Done {
+            list: list.hold(text),
+            taken: end,
+            bytes: 0,
+        };
+    }
+    let reply = list.reply(h, lat, lon, &text[..end]);
+    let n = reply.write(room);
+    Done {
+        list: list.count(reply),
+        taken: end + 1,
+        bytes: n,
+    }
+}
+
+// The last request line, if it has no newline, and the totals.
+pub(crate) fn put_end(list: Listing, room: &mut [u8]) -> usize
+    requires { ⌜ Enough (endText list) (now room) ⌝ }
+    ensures { λ r. ⌜ Put (endText list) (now (room .entry)) (now (room .exit)) r ⌝ }
+{
+    if list.length == 0 {
+        let done = Reply::Done(list.answered, list.refused);
+        return done.write(room);
+    }
+    let cut = Reply::No(1);
+    let at = cut.write(room);
+    let from = least(at, room.len());
+    let done = Reply::Done(list.answered, one_more(list.refused));
+    at + done.write(&mut room[from..])
+}
+
+pub(crate) fn put_list<'a>(
+    h: Header,
+    lat: &'a [i64],
+    lon: &'a [i64],
+    text: &[u8],
+    room: &mut [u8],
+) -> usize
+    requires { ⌜ Enough (listText (nodesOf h) (checkedOnce h (now lat) (now lon)) (now text)) (now room) ⌝ }
+    ensures { λ r. ⌜ Put (listText (nodesOf h) (checkedOnce h (now (lat .entry)) (now (lon .entry))) (now (text .entry))) (now (room .entry)) (now (room .exit)) r ⌝ }
+{
+    let sheet = Reply::Sheet(h.nodes() as i64);
+    let mut at = sheet.write(room);
+    let mut from = least(at, room.len());
+    let done = put_replies(Listing::new(), h, lat, lon, text, &mut room[from..]);
+    at = plus(at, done.bytes);
+    from = least(at, room.len());
+    let list = done.list;
+    plus(at, put_end(list, &mut room[from..]))
+}

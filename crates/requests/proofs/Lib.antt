@@ -1,0 +1,3 @@
+pub mod StartLaws
+pub mod WordLaws
+pub mod ReplyLaws
