@@ -1,0 +1,42 @@
+// Standard output.
+use figures::Refusal;
+use libc::STDOUT_FILENO;
+use lines::Written;
+
+// Sends what was written to the front of the room, or why it was not. Answers whether to go on.
+pub(crate) fn put(written: Written, room: &[u8]) -> bool {
+    match written {
+        Written::Bytes(n) => send(n, room),
+        Written::Refused(why) => {
+            refuse(why);
+            false
+        }
+    }
+}
+
+// `no=NUMBER,PLACE`
+pub(crate) fn refuse(why: Refusal) {
+    let mut line = [0u8; 45];
+    let n = lines::write_pair(b"no=", signed(why.number()), signed(why.place()), &mut line);
+    send(n, &line);
+}
+
+// Sends the first `n` bytes of the room, if it has so many. Answers whether they went.
+fn send(n: usize, room: &[u8]) -> bool {
+    if room.len() < n {
+        return false;
+    }
+    let sent = io::write_all(STDOUT_FILENO, &room[..n]);
+    if !sent {
+        os::fail(b"standard output");
+    }
+    sent
+}
+
+// A number as the writer of lines takes it. None that is printed comes near the limit.
+fn signed(n: usize) -> i64 {
+    if n < 9_223_372_036_854_775_807 {
+        return n as i64;
+    }
+    9_223_372_036_854_775_807
+}
