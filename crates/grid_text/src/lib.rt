@@ -44,6 +44,5 @@ pub(crate) fn node_count(h: Header) -> usize
     requires { ⌜ brokenRule h ≡ 0 ⌝ }
     ensures { λ r. ⌜ (r ≡ nodeCount h) × (r ≤ 2048) ⌝ }
 {
-    let shape = h.shape();
-    shape.rows * shape.cols
+    h.nodes()
 }

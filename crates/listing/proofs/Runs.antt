@@ -15,13 +15,13 @@ use Rattle.listing.specs.Lines.{replies, rest, texts, answers, refusals}
 use Rattle.listing.specs.Pieces.{listingOf, heldLine, fedReplies, fedText, fedList}
 use Rattle.listing.specs.Needs.{Enough, Roomy, Put, Replied, Stepped}
 use Rattle.listing.specs.declared.Listing.{Listing}
-use Rattle.listing.specs.declared.putting.Done.{Done}
+use Rattle.listing.specs.declared.putting.Advance.{Advance}
 use Rattle.listing.proofs.Cuts.{cut-text, cut-list}
 use Rattle.listing.proofs.Rooms.{enough-front, put-rest}
 use Rattle.listing.proofs.Steps.{written-nothing}
 
 -- the first bytes of a piece were fed to the list s, and l has come of it
-pub record Fed (c : Conversions) (s : Listing) (piece before now : List ℕ) (l : Listing) (taken bytes : ℕ) : Type 0 where
+pub record FedSoFar (c : Conversions) (s : Listing) (piece before now : List ℕ) (l : Listing) (taken bytes : ℕ) : Type 0 where
   pub within : taken ≤ length piece
   pub next : l ≡ fedList c s (take taken piece)
   pub put : Put (fedText c s (take taken piece)) before now bytes
@@ -29,7 +29,7 @@ pub record Fed (c : Conversions) (s : Listing) (piece before now : List ℕ) (l 
   pub roomy : Roomy (fedText c s piece) (length piece) before
 
 -- the front of what is left of a piece
-module _ (piece : List ℕ) {c : Conversions} {l : Listing} {room after : List ℕ} {r : Done} {taken : ℕ} (g : taken < length piece) (p : Stepped c l (midOf taken (length piece - taken) piece) room after r) where
+module _ (piece : List ℕ) {c : Conversions} {l : Listing} {room after : List ℕ} {r : Advance} {taken : ℕ} (g : taken < length piece) (p : Stepped c l (midOf taken (length piece - taken) piece) room after r) where
   pub at-rest : Stepped c l (drop taken piece) room after r
   at-rest = rw (rest-lent taken piece) at p
 
@@ -57,7 +57,7 @@ module _ (c : Conversions) where
     same-list : fedList c t piece ≡ fedList c s piece
     same-list = ap (λ l. fedList c l piece) e ∙ sym (cut-list c s [] piece)
 
-  pub fed-none : (s : Listing) {t : Listing} → t ≡ fedList c s [] → (piece room : List ℕ) → Roomy (fedText c s piece) (length piece) room → Fed c t piece room room t 0 0
+  pub fed-none : (s : Listing) {t : Listing} → t ≡ fedList c s [] → (piece room : List ℕ) → Roomy (fedText c s piece) (length piece) room → FedSoFar c t piece room room t 0 0
   fed-none s {t} e piece room h = record {
     within = omega arith;
     next = e ∙ sym (same-list s e []);
@@ -67,8 +67,8 @@ module _ (c : Conversions) where
   }
 
   -- one line more; `text` is what is left of the piece, and its front was fed
-  module _ (s : Listing) (piece : List ℕ) {before now after : List ℕ} {l : Listing} {taken bytes k n : ℕ} {r : Done}
-      (f : Fed c s piece before now l taken bytes) (b : length before < 2 ^ 64) (g : taken < length piece) (a : k ≡ min bytes (length now))
+  module _ (s : Listing) (piece : List ℕ) {before now after : List ℕ} {l : Listing} {taken bytes k n : ℕ} {r : Advance}
+      (f : FedSoFar c s piece before now l taken bytes) (b : length before < 2 ^ 64) (g : taken < length piece) (a : k ≡ min bytes (length now))
       (p : Stepped c l (midOf taken (length piece - taken) piece) (midOf k (length now - k) now) after r) (q : n ≡ capped (bytes + r .bytes)) where
     t : List ℕ
     t = take taken piece
@@ -105,7 +105,7 @@ module _ (c : Conversions) where
         (λ h. inr (omega (arith, short, onward piece g p, inside piece g p)))
         (f .roomy)
 
-    pub fed-more : Fed c s piece before (putMid k (length now - k) now after) (r .list) (taken + r .taken) n
+    pub fed-more : FedSoFar c s piece before (putMid k (length now - k) now after) (r .list) (taken + r .taken) n
     unfolding v w t u
     fed-more = record {
       within = inside piece g p;
@@ -115,7 +115,7 @@ module _ (c : Conversions) where
       roomy = f .roomy;
     }
 
-  pub fed-all : (s : Listing) {t l : Listing} → t ≡ fedList c s [] → (piece : List ℕ) {before now : List ℕ} {taken bytes : ℕ} → Fed c t piece before now l taken bytes → length piece ≤ taken
+  pub fed-all : (s : Listing) {t l : Listing} → t ≡ fedList c s [] → (piece : List ℕ) {before now : List ℕ} {taken bytes : ℕ} → FedSoFar c t piece before now l taken bytes → length piece ≤ taken
       → Replied c s piece before now (record { list = l; taken = taken; bytes = bytes })
   fed-all s {t} e piece {taken = n} f h =
       let x : take n piece ≡ piece = take-all n piece h in

@@ -1,4 +1,5 @@
 pub mod Lines
 pub mod Listing
 pub mod Pieces
+pub mod Joined
 pub mod Needs

@@ -9,7 +9,7 @@ use Rattle.requests.specs.Replies.{Conversions}
 use Rattle.listing.specs.Listing.{capped}
 use Rattle.listing.specs.Pieces.{fedText, fedList}
 use Rattle.listing.specs.declared.Listing.{Listing}
-use Rattle.listing.specs.declared.putting.Done.{Done}
+use Rattle.listing.specs.declared.putting.Advance.{Advance}
 
 -- the room has no bytes, for counting alone, or it has the bytes for a text
 abbrev pub Enough : (text room : List ℕ) → Type 0
@@ -30,13 +30,13 @@ pub record Put (text room after : List ℕ) (count : ℕ) : Type 0 where
   pub wrote : after ≡ written text room
 
 -- a piece was fed
-pub record Replied (c : Conversions) (s : Listing) (piece room after : List ℕ) (r : Done) : Type 0 where
+pub record Replied (c : Conversions) (s : Listing) (piece room after : List ℕ) (r : Advance) : Type 0 where
   pub next : r .list ≡ fedList c s piece
   pub put : Put (fedText c s piece) room after (r .bytes)
   pub small : length (fedText c s piece) ≤ 47 * length piece
 
 -- the front of a text was fed
-pub record Stepped (c : Conversions) (s : Listing) (text room after : List ℕ) (r : Done) : Type 0 where
+pub record Stepped (c : Conversions) (s : Listing) (text room after : List ℕ) (r : Advance) : Type 0 where
   pub within : r .taken ≤ length text
   pub onward : 0 < length text → 0 < r .taken
   pub next : r .list ≡ fedList c s (take (r .taken) text)

@@ -13,8 +13,8 @@ ghost use Rattle.listing.specs.Listing.{listText};
 ghost use Rattle.listing.specs.Pieces.{fedText, endText};
 ghost use Rattle.listing.specs.Needs.{Enough, Roomy, Lacking, Stepped, Replied, Put};
 
-// What was done with a text: how many of its bytes were read and how many were written.
-pub(crate) struct Done {
+// How far a text was worked: the list behind it, how many of its bytes were read, and how many were written.
+pub(crate) struct Advance {
     pub list: Listing,
     pub taken: usize,
     pub bytes: usize,
@@ -52,7 +52,7 @@ pub(crate) fn put_replies<'a>(
     lon: &'a [i64],
     piece: &[u8],
     room: &mut [u8],
-) -> Done
+) -> Advance
     requires { ⌜ Roomy (fedText (checkedOnce h (now lat) (now lon)) list (now piece)) (length (now piece)) (now room) ⌝ }
     ensures { λ r. ⌜ Replied (checkedOnce h (now (lat .entry)) (now (lon .entry))) list (now (piece .entry)) (now (room .entry)) (now (room .exit)) r ⌝ }
 {
@@ -66,7 +66,7 @@ pub(crate) fn put_replies<'a>(
         taken += done.taken;
         bytes = plus(bytes, done.bytes);
     }
-    Done {
+    Advance {
         list: next,
         taken,
         bytes,
@@ -81,12 +81,12 @@ fn put_line<'a>(
     lon: &'a [i64],
     text: &[u8],
     room: &mut [u8],
-) -> Done
+) -> Advance
     ensures { λ r. ⌜ Stepped (checkedOnce h (now (lat .entry)) (now (lon .entry))) list (now (text .entry)) (now (room .entry)) (now (room .exit)) r ⌝ }
 {
     let end = bytes::scan::find(text, 0, text.len(), b'\n');
     if text.len() <= end {
-        return Done {
+        return Advance {
             list: list.hold(text),
             taken: end,
             bytes: 0,
@@ -94,7 +94,7 @@ fn put_line<'a>(
     }
     let reply = list.reply(h, lat, lon, &text[..end]);
     let n = reply.write(room);
-    Done {
+    Advance {
         list: list.count(reply),
         taken: end + 1,
         bytes: n,

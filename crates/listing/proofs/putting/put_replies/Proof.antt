@@ -7,12 +7,12 @@ use lib.ListN.{length}
 use Rattle.requests.specs.Replies.{checkedOnce}
 use Rattle.listing.specs.Pieces.{fedList}
 use Rattle.listing.proofs.Rooms.{put-length}
-use Rattle.listing.proofs.Runs.{Fed, onward, inside, fed-nothing, fed-none, fed-more, fed-all}
+use Rattle.listing.proofs.Runs.{FedSoFar, onward, inside, fed-nothing, fed-none, fed-more, fed-all}
 use Rattle.listing.proofs.putting.put_replies.Statement.{statement}
 use Rattle.listing.proofs.putting.put_replies.Tie as tie
 
 abbrev Inv-loop : tie.InvT-loop
-Inv-loop h lat lon piece room₀ next₀ taken₀ bytes₀ room next taken bytes = Fed (checkedOnce h lat lon) next₀ piece room₀ room next taken bytes
+Inv-loop h lat lon piece room₀ next₀ taken₀ bytes₀ room next taken bytes = FedSoFar (checkedOnce h lat lon) next₀ piece room₀ room next taken bytes
 
 abbrev μ-loop : tie.MeasureT-loop
 μ-loop h lat lon piece room₀ next₀ taken₀ bytes₀ room next taken bytes = length piece - taken

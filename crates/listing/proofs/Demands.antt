@@ -1,0 +1,66 @@
+-- The list as a whole: however its requests are cut, what is written is the list; and what its totals count.
+use Prim.Native.Nat.{ℕ, suc, _+_, _^_, _≤_, _<_}
+use mathlib.Core.Path.{_≡_, refl, sym, ap, _∙_}
+use mathlib.Core.Bool.{true, false, cond}
+use mathlib.Core.List.{List, [], _∷_, _++_, append-assoc, append-nil}
+use native.Mathlib.Omega.{arith}
+use borrow.Author.Tests.{lt-ltb}
+use lib.Dec.{eqb}
+use lib.ListN.{length, length-append}
+use lib.IntN.{ℤ, pos}
+use Rattle.laws.specs.Logic.{either-way}
+use Rattle.laws.specs.Over.{over}
+use Rattle.grid.specs.Rules.{nodesOf}
+use Rattle.grid.specs.Check.{Passes}
+use Rattle.grid.specs.declared.Header.{Header}
+use Rattle.requests.specs.Requests.{requestIn}
+use Rattle.requests.specs.Replies.{Conversions, checkedOnce, checkedAfresh, isAnswer, replyTo}
+use Rattle.requests.specs.declared.Asked.{Asked}
+use Rattle.requests.specs.declared.Reply.{Reply}
+use Rattle.listing.specs.Lines.{newline, replies, rest, texts, answers, refusals}
+use Rattle.listing.specs.Listing.{listText}
+use Rattle.listing.specs.Pieces.{fresh, fedReplies, fedText, fedList, endText}
+use Rattle.listing.specs.Joined.{joined, fedTexts, fedLists, inPieces}
+use Rattle.listing.specs.declared.Listing.{Listing}
+use Rattle.listing.proofs.Cuts.{cut-text, cut-list, too-long}
+use Rattle.listing.proofs.Whole.{list-text, once-afresh}
+
+-- ---- pieces
+
+-- a list that was fed already, as `fresh` was by nothing
+module _ (c : Conversions) where
+  pub feed-joined : (s : Listing) → s ≡ fedList c s [] → (ps : List (List ℕ)) → (fedTexts c s ps ≡ fedText c s (joined ps)) × (fedLists c s ps ≡ fedList c s (joined ps))
+  unfolding fedText fedReplies replies texts
+  feed-joined s e [] = (refl, e)
+  feed-joined s e (p ∷ ps) =
+      let r = feed-joined (fedList c s p) (sym (ap (fedList c s) (append-nil p)) ∙ cut-list c s p []) ps in
+      (ap (λ t. fedText c s p ++ t) (r .0) ∙ sym (cut-text c s p (joined ps)), r .1 ∙ sym (cut-list c s p (joined ps)))
+
+  fresh-fed : fresh ≡ fedList c fresh []
+  unfolding fedList fedReplies replies rest answers refusals over
+  fresh-fed = refl
+
+-- the pieces written, joined, are what the list writes for the pieces read, joined
+pub in-pieces : (h : Header) (lat lon : List ℤ) → Passes h lat lon → (pieces : List (List ℕ)) → length (joined pieces) < 2 ^ 63
+    → inPieces (nodesOf h) (checkedOnce h lat lon) pieces ≡ listText (nodesOf h) (checkedAfresh h lat lon) (joined pieces)
+unfolding inPieces
+in-pieces h lat lon e pieces b =
+    let c = checkedOnce h lat lon in
+    let r = feed-joined c fresh (fresh-fed c) pieces in
+    rw (r .0, r .1) (sym (list-text (nodesOf h) c (joined pieces) b) ∙ ap (λ d. listText (nodesOf h) d (joined pieces)) (once-afresh h lat lon e))
+
+-- ---- totals
+
+-- every reply is an answer or a refusal, and none is both
+pub all-counted : (rs : List Reply) → answers rs + refusals rs ≡ length rs
+unfolding answers refusals
+all-counted [] = omega arith
+all-counted (r ∷ rs) =
+    either-way (λ p. cond p (suc (answers rs)) (answers rs) + cond p (refusals rs) (suc (refusals rs)) ≡ suc (length rs)) (isAnswer r)
+    (omega (arith, all-counted rs)) (omega (arith, all-counted rs))
+
+-- ---- a line above 64 bytes
+
+-- is refused 1, however long it is
+pub long-line : (c : Conversions) (line : List ℕ) → 64 < length line → replyTo c (requestIn line) ≡ Reply.No (pos 1)
+long-line c line h = ap (replyTo c) (too-long line h)
