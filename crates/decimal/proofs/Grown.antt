@@ -8,7 +8,7 @@ use native.Mathlib.Nat.{pos-of-ne-zero}
 use borrow.Author.Tests.{eqb-true, eqb-false, ltb-false, le-ltb, ne-eqb, not-true}
 use lib.Dec.{ltb, eqb}
 use lib.IntN.{pos}
-use Rattle.laws.specs.Logic.{both, neither, by-cond}
+use Rattle.laws.specs.Logic.{and-false, both, neither, by-cond}
 use Rattle.decimal.specs.Spelling.{digits, sign, spell, Short, isDigit}
 use Rattle.decimal.specs.Pushing.{none, number, minusPushed, digitPushed, pushed, signed, valueOf, part}
 use Rattle.decimal.specs.declared.Number.{Number}
@@ -17,10 +17,6 @@ use Rattle.decimal.proofs.Bytes.{digit-range}
 use Rattle.decimal.proofs.Digits.{digits-small, digits-snoc}
 
 -- ---- tests, taken apart
-
-pub and-false : (p : Bool) → (p && false) ≡ false
-and-false true = refl
-and-false false = refl
 
 pub refused-grown : {m : Number} → Refused ≡ Grown m → ⊥
 refused-grown e = let z : _≡_ {A = ℕ} 0 1 = cc in omega arith

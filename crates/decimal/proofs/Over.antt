@@ -14,7 +14,7 @@ use Rattle.laws.specs.Over.{over, length-over, over-set, over-take, over-drop, 
 use Rattle.decimal.specs.Wrote.{Wrote, written}
 
 -- the rest of a list from k on, as it is lent, and the list when it is back
-rest-lent : (k : ℕ) (m : List ℕ) → midOf k (length m - k) m ≡ drop k m
+pub rest-lent : (k : ℕ) (m : List ℕ) → midOf k (length m - k) m ≡ drop k m
 rest-lent k m = take-all (length m - k) (drop k m) (le-of-eq (length-drop k m))
 
 rest-back : (k : ℕ) (m y : List ℕ) → putMid k (length m - k) m y ≡ take k m ++ y

@@ -8,7 +8,7 @@ use native.Mathlib.Omega.{arith}
 use borrow.Author.Tests.{le-ltb, ne-eqb}
 use lib.Dec.{eqb}
 use lib.IntN.{ℤ, pos, negsuc}
-use Rattle.laws.specs.Logic.{by-cond}
+use Rattle.laws.specs.Logic.{and-false, by-cond}
 use Rattle.decimal.specs.Spelling.{digits, sign, spell, Short}
 use Rattle.decimal.specs.Pushing.{none, number, minusPushed, digitPushed, pushed, signed, valueOf, part, onward, pushedAll}
 use Rattle.decimal.specs.declared.Number.{Number}
@@ -16,7 +16,7 @@ use Rattle.decimal.specs.declared.Pushed.{Pushed}
 use Rattle.decimal.specs.declared.Pushed.the-variants.{Grown, Refused}
 use Rattle.decimal.proofs.Bytes.{is-digit}
 use Rattle.decimal.proofs.Digits.{tens, digits-small, digits-more}
-use Rattle.decimal.proofs.Grown.{and-false, Good, good-none, push-grown, good-spelled, value-small, value-short}
+use Rattle.decimal.proofs.Grown.{Good, good-none, push-grown, good-spelled, value-small, value-short}
 
 -- ---- a spelled number is pushed to its end
 

@@ -3,7 +3,7 @@ use mathlib.Core.Path.{_≡_, refl, sym, subst, _∙_}
 use mathlib.Core.Bool.{Bool, true, false, _&&_, _||_, cond}
 use lib.Dec.{T}
 use lib.IntN.{ℤ}
-use lib.Signed.{leZ, _≤ℤ_, _<ℤ_, leZ-yes, clashℤ, ≤ℤ-refl}
+use lib.Signed.{leZ, ltZ, _≤ℤ_, _<ℤ_, leZ-yes, ltZ-yes, clashℤ, ≤ℤ-refl}
 use native.Mathlib.Omega.{arith}
 use Rattle.laws.specs.Parts.{ints}
 
@@ -26,6 +26,10 @@ pub or-true : (a b : Bool) → b ≡ true → (a || b) ≡ true
 or-true true b e = refl
 or-true false b e = e
 
+pub and-false : (p : Bool) → (p && false) ≡ false
+and-false true = refl
+and-false false = refl
+
 pub both : (a b : Bool) → (a && b) ≡ true → (a ≡ true) × (b ≡ true)
 both true true e = (refl, refl)
 both true false e = absurd (subst T (sym e) tt)
@@ -41,6 +45,12 @@ leZ-true {a} {b} h = is-true (leZ a b) (h .le)
 
 pub leZ-false : {a b : ℤ} → b <ℤ a → leZ a b ≡ false
 leZ-false {a} {b} h = is-false (leZ a b) (λ t. clashℤ h (leZ-yes t))
+
+pub ltZ-true : {a b : ℤ} → a <ℤ b → ltZ a b ≡ true
+ltZ-true {a} {b} h = is-true (ltZ a b) (h .lt)
+
+pub ltZ-false : {a b : ℤ} → b ≤ℤ a → ltZ a b ≡ false
+ltZ-false {a} {b} h = is-false (ltZ a b) (λ t. clashℤ (ltZ-yes t) h)
 
 pub leZ-holds : {a b : ℤ} → leZ a b ≡ true → a ≤ℤ b
 leZ-holds e = leZ-yes (subst T (sym e) tt)

@@ -1,12 +1,10 @@
 -- The list as a whole: however its requests are cut, what is written is the list; and what its totals count.
-use Prim.Native.Nat.{ℕ, suc, _+_, _^_, _≤_, _<_}
+use Prim.Native.Nat.{ℕ, suc, _+_, _^_, _<_}
 use mathlib.Core.Path.{_≡_, refl, sym, ap, _∙_}
-use mathlib.Core.Bool.{true, false, cond}
-use mathlib.Core.List.{List, [], _∷_, _++_, append-assoc, append-nil}
+use mathlib.Core.Bool.{cond}
+use mathlib.Core.List.{List, [], _∷_, _++_, append-nil}
 use native.Mathlib.Omega.{arith}
-use borrow.Author.Tests.{lt-ltb}
-use lib.Dec.{eqb}
-use lib.ListN.{length, length-append}
+use lib.ListN.{length}
 use lib.IntN.{ℤ, pos}
 use Rattle.laws.specs.Logic.{either-way}
 use Rattle.laws.specs.Over.{over}
@@ -15,11 +13,10 @@ use Rattle.grid.specs.Check.{Passes}
 use Rattle.grid.specs.declared.Header.{Header}
 use Rattle.requests.specs.Requests.{requestIn}
 use Rattle.requests.specs.Replies.{Conversions, checkedOnce, checkedAfresh, isAnswer, replyTo}
-use Rattle.requests.specs.declared.Asked.{Asked}
 use Rattle.requests.specs.declared.Reply.{Reply}
-use Rattle.listing.specs.Lines.{newline, replies, rest, texts, answers, refusals}
+use Rattle.listing.specs.Lines.{replies, rest, texts, answers, refusals}
 use Rattle.listing.specs.Listing.{listText}
-use Rattle.listing.specs.Pieces.{fresh, fedReplies, fedText, fedList, endText}
+use Rattle.listing.specs.Pieces.{fresh, fedReplies, fedText, fedList}
 use Rattle.listing.specs.Joined.{joined, fedTexts, fedLists, inPieces}
 use Rattle.listing.specs.declared.Listing.{Listing}
 use Rattle.listing.proofs.Cuts.{cut-text, cut-list, too-long}

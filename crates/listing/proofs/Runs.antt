@@ -9,7 +9,7 @@ use lib.ListN.{length, take, drop, length-append, length-drop, take-append-drop}
 use lib.Seq.{take-all, take-add}
 use Rattle.decimal.specs.Wrote.{written}
 use Rattle.requests.specs.Replies.{Conversions}
-use Rattle.requests.proofs.WordLaws.{rest as rest-lent}
+use Rattle.decimal.proofs.Over.{rest-lent}
 use Rattle.listing.specs.Listing.{capped}
 use Rattle.listing.specs.Lines.{replies, rest, texts, answers, refusals}
 use Rattle.listing.specs.Pieces.{listingOf, heldLine, fedReplies, fedText, fedList}

@@ -9,7 +9,7 @@ use lib.Dec.{eqb, lt→ltb}
 use lib.ListN.{length, take, length-append}
 use lib.IntN.{ℤ, pos}
 use lib.Signed.{_<ℤ_}
-use Rattle.laws.specs.Logic.{either-way}
+use Rattle.laws.specs.Logic.{ltZ-true, either-way}
 use Rattle.laws.specs.Over.{over}
 use Rattle.grid.specs.Check.{Passes}
 use Rattle.grid.specs.declared.Header.{Header}
@@ -21,7 +21,6 @@ use Rattle.listing.specs.Lines.{newline, replies, rest, unended, allRepl
 use Rattle.listing.specs.Listing.{sheetText, listText}
 use Rattle.listing.specs.Pieces.{oneMore, raised, listingOf, fresh, fedReplies, fedText, fedList, endText}
 use Rattle.listing.proofs.Cuts.{held-of, texts-append, answers-append, refusals-append}
-use Rattle.listing.proofs.Holding.{lt-true}
 
 -- ---- totals below the greatest
 
@@ -29,7 +28,7 @@ one-more-pos : (m : ℕ) → m < 9223372036854775807 → oneMore (pos m) ≡ pos
 unfolding oneMore
 one-more-pos m h =
     let q : pos m <ℤ pos 9223372036854775807 = record { lt = lt→ltb m 9223372036854775807 h } in
-    rw (lt-true q)
+    rw (ltZ-true q)
 
 raised-pos : (m n : ℕ) → m + n ≤ 9223372036854775807 → raised (pos m) n ≡ pos (m + n)
 raised-pos m zero h = let e : m ≡ m + 0 = omega arith in ap pos e

@@ -1,27 +1,15 @@
 use borrow.Author.Needs.{needs}
 use native.Mathlib.Omega.{arith}
-use Prim.Native.Nat.{ℕ, _^_, _<_}
-use mathlib.Core.Path.{_≡_, refl, ap}
-use mathlib.Core.List.{List, _++_}
-use mathlib.Core.Logic.{inl, inr}
+use Prim.Native.Nat.{_^_, _<_}
+use mathlib.Core.Path.{refl}
+use mathlib.Core.Logic.{inl}
 use lib.ListN.{length}
-use Rattle.lines.specs.Writing.{roomAfter}
-use Rattle.grid.specs.Rules.{nodesOf}
-use Rattle.requests.specs.Replies.{checkedOnce}
-use Rattle.listing.specs.Listing.{listText}
-use Rattle.listing.proofs.Rooms.{dry, too-short, long-enough, fits}
+use Rattle.listing.proofs.Rooms.{counted-short, counted-enough, counted-fits}
 use Rattle.listing.proofs.list_checked.Statement.{statement}
 use Rattle.listing.proofs.list_checked.Tie as tie
 
 lent : (c : tie.Start) → length (c .args .room .now) < 2 ^ 63
 lent c = omega arith
-
-abbrev text : tie.Start → List ℕ
-text s = listText (nodesOf (s .args .h)) (checkedOnce (s .args .h) (s .args .lat .now) (s .args .lon .now)) (s .args .text .now)
-
--- where the room had no bytes, the whole room is as it was
-same : (c : tie.After-put-list) → c .put-list .last .1 .1 .1 .1 .0 ++ c .before .before .before .before .args .room .now ≡ c .before .before .before .before .args .room .now
-same c = let s = c .before .before .before .before in dry (text s) (s .args .room .now) (c .put-list .ensures .wrote)
 
 sub-put-list : tie.Need-sub-put-list
 sub-put-list c = search needs
@@ -39,17 +27,10 @@ same-length : tie.Need-same-length
 same-length c = search needs
 
 returns : tie.Need-returns
-unfolding roomAfter
-returns c =
-    let p = c .before .before .before in
-    let s = p .before .before .before .before in
-    (too-short (text s) (s .args .room .now) (lent s) (p .put-list .ensures .counted) (omega (arith, ap length (same p), c .if1 .taken)), same p)
+returns c = let p = c .before .before .before in counted-short _ _ (lent (p .before .before .before .before)) (p .put-list .ensures) (c .if1 .taken)
 
 put-list-requires-2 : tie.Need-put-list-requires-2
-put-list-requires-2 c κs =
-    let p = c .before .before .before .before in
-    let s = p .before .before .before .before in
-    inr (rw (same p) (long-enough (text s) (s .args .room .now) (lent s) (p .put-list .ensures .counted) (omega (arith, ap length (same p), c .before .if1 .left))))
+put-list-requires-2 c κs = let p = c .before .before .before .before in counted-enough _ _ (lent (p .before .before .before .before)) (p .put-list .ensures) (c .before .if1 .left)
 
 same-length-2 : tie.Need-same-length-2
 same-length-2 c = search needs
@@ -58,9 +39,7 @@ returns-2 : tie.Need-returns-2
 returns-2 c =
     let q = c .before .before in
     let p = q .before .before .before .before .before in
-    let s = p .before .before .before .before in
-    fits (text s) (s .args .room .now) (lent s) (rw (same p) at (q .put-list2 .ensures))
-    (long-enough (text s) (s .args .room .now) (lent s) (p .put-list .ensures .counted) (omega (arith, ap length (same p), q .before .before .if1 .left)))
+    counted-fits _ _ (lent (p .before .before .before .before)) (p .put-list .ensures) (q .before .before .if1 .left) (q .put-list2 .ensures)
 
 pub list-checked-spec : {M : Type 1} → statement M
 list-checked-spec =

@@ -1,21 +1,17 @@
 use borrow.Author.Needs.{needs}
 use native.Mathlib.Omega.{arith}
 use Prim.Native.Nat.{ℕ, _-_, _^_, _<_}
-use mathlib.Core.Path.{_≡_, ap, _∙_}
+use mathlib.Core.Path.{_≡_}
 use mathlib.Core.List.{List, _++_}
 use mathlib.Core.Logic.{inl}
 use borrow.Rule.Slice.PartMut.{putMid}
 use lib.ListN.{length}
-use lib.IntN.{pos}
-use mir.Syntax.{w64}
-use mir.Val.{toZ}
-use Rattle.decimal.proofs.Signs.{read-pos}
 use Rattle.grid.specs.Rules.{nodesOf}
 use Rattle.requests.specs.Replies.{Conversions, checkedOnce}
 use Rattle.listing.specs.Listing.{sheetText, listText}
 use Rattle.listing.specs.Pieces.{fresh, fedText, fedList, endText}
 use Rattle.listing.specs.Needs.{Enough, Put}
-use Rattle.listing.proofs.Rooms.{enough-front, enough-rest, put-rest, put}
+use Rattle.listing.proofs.Rooms.{enough-front, enough-rest, put-rest, put-sheet}
 use Rattle.listing.proofs.Whole.{list-text}
 use Rattle.listing.proofs.putting.put_list.Statement.{statement}
 use Rattle.listing.proofs.putting.put_list.Tie as tie
@@ -43,10 +39,7 @@ enough : (s : tie.Start) → Enough (first s ++ second s ++ third s) (s .args .r
 enough s = rw (whole s) at (s .pre)
 
 sheet : (c : tie.After-write) → let s = c .before .before .before .before .before in Put (first s) (s .args .room .now) (c .write .last .1 .0) (c .write .result)
-sheet c =
-    let n = c .before .before .nodes in
-    let e : toZ w64 (n .result) ≡ pos (nodesOf (c .before .before .before .before .before .args .h)) = read-pos (n .result) (omega (arith, n .ensures)) ∙ ap pos (n .ensures .0) in
-    put (rw e at (c .write .ensures))
+sheet c = put-sheet (c .before .before .nodes .ensures) (c .write .ensures)
 
 -- the replies behind the first line
 replied : (c : tie.After-plus) → let p = c .before .before .before in let l = p .before .before .before in let w = l .before .before .before in let s = w .before .before .before .before .before in let m = w .write .last .1 .0 in let k = l .least .result in
