@@ -117,6 +117,7 @@ pub(crate) fn put_end(list: Listing, room: &mut [u8]) -> usize
     at + done.write(&mut room[from..])
 }
 
+// The whole list.
 pub(crate) fn put_list<'a>(
     h: Header,
     lat: &'a [i64],
