@@ -52,11 +52,11 @@ impl Header {
     pub fn nodes(self) -> usize
         ensures { λ r. ⌜ (r ≡ nodesOf self) × (r ≤ 2048) ⌝ }
     {
-        if self.broken_rule() != 0 {
-            return 0;
+        if self.broken_rule() == 0 {
+            let shape = self.shape();
+            return shape.rows * shape.cols;
         }
-        let shape = self.shape();
-        shape.rows * shape.cols
+        0
     }
 }
 

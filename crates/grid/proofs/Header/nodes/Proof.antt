@@ -11,7 +11,7 @@ use Rattle.grid.proofs.Header.nodes.Statement.{statement}
 use Rattle.grid.proofs.Header.nodes.Tie as tie
 
 unbroken : (c : tie.After-struct-known) → brokenRule (c .before .before .before .before .args .self) ≡ 0
-unbroken c = sym (c .before .before .before .broken-rule .ensures) ∙ c .before .before .if1 .left
+unbroken c = sym (c .before .before .before .broken-rule .ensures) ∙ c .before .before .if1 .taken
 
 sizes : (c : tie.After-struct-known) → Extent (c .before .shape .result)
 sizes c = rw (c .before .shape .ensures) (extent (rules-hold _ (unbroken c)))
@@ -19,19 +19,19 @@ sizes c = rw (c .before .shape .ensures) (extent (rules-hold _ (unbroken c)))
 broken-rule-requires : tie.Need-broken-rule-requires
 broken-rule-requires c κs = search needs
 
-returns : tie.Need-returns
-unfolding nodesOf
-returns c = (rw (ne-eqb _ 0 (λ e. c .if1 .taken (c .before .broken-rule .ensures ∙ e))), omega arith)
-
 shape-requires : tie.Need-shape-requires
 shape-requires c κs = search needs
 
 mul-result : tie.Need-mul-result
 mul-result c = omega (arith, sizes c)
 
+returns : tie.Need-returns
+unfolding nodesOf
+returns c = (rw (eq-eqb _ 0 (unbroken c)) (ap (λ (s : Shape). s .rows * s .cols) (c .before .shape .ensures)), sizes c .nodes)
+
 returns-2 : tie.Need-returns-2
 unfolding nodesOf
-returns-2 c = (rw (eq-eqb _ 0 (unbroken c)) (ap (λ (s : Shape). s .rows * s .cols) (c .before .shape .ensures)), sizes c .nodes)
+returns-2 c = (rw (ne-eqb _ 0 (λ e. c .if1 .left (c .before .broken-rule .ensures ∙ e))), omega arith)
 
 pub nodes-spec : {M : Type 1} → statement M
-nodes-spec = tie.close (tie.spec broken-rule-requires returns shape-requires mul-result returns-2)
+nodes-spec = tie.close (tie.spec broken-rule-requires shape-requires mul-result returns returns-2)
