@@ -1,3 +1,5 @@
 pub mod Points
 pub mod Convert
+pub mod Pairs
+pub mod Many
 pub mod Starred

@@ -1,5 +1,7 @@
 // Points from NAD 27 to NAD 83 and back, over a grid.
+pub mod many;
 mod offsets;
+pub mod pairs;
 mod search;
 
 use figures::Nad83;
@@ -9,14 +11,16 @@ use figures::Refusal;
 use grid::Checked;
 use grid::Header;
 use offsets::Place;
+use search::Found;
 use shift::Interpolated;
 use shift::Shift;
 ghost use mathlib.Core.Path.{_≡_};
 ghost use Rattle.laws.specs.Parts.{Within};
-ghost use Rattle.figures.specs.Outcome.{answered};
+ghost use Rattle.figures.specs.Outcome.{answered, mapAnswer};
 ghost use Rattle.grid.specs.Check.{layout, Passes};
+ghost use Rattle.shift.specs.Shift.{outcome};
 ghost use Rattle.convert.specs.Points.{answerOf};
-ghost use Rattle.convert.specs.Convert.{outcome83, outcome27, to83, to27, forward, Returned, confirm, settle, inverse};
+ghost use Rattle.convert.specs.Convert.{outcome83, outcome27, to83, to27, forward, Returned, orZero, settle, inverse};
 
 pub enum Answer83 {
     Point(Point83),
@@ -103,17 +107,21 @@ fn inverse_on<'a>(h: Header, lat: &'a [i64], lon: &'a [i64], f: Point83) -> Answ
 {
     match offsets::target_of(h, f) {
         Place::Outside => Answer27::Refused(Refusal::NoPoint),
-        Place::At(x, y) => confirm(h, lat, lon, f, search::candidate(h, lat, lon, x, y)),
+        Place::At(x, y) => confirm(f, search::candidate(h, lat, lon, x, y)),
     }
 }
 
 // The candidate is the point if its answer is the figure; otherwise no point is.
-fn confirm<'a>(h: Header, lat: &'a [i64], lon: &'a [i64], f: Point83, p: Point27) -> Answer27
-    ensures { λ r. ⌜ outcome27 r ≡ confirm h (now (lat .entry)) (now (lon .entry)) f p ⌝ }
+fn confirm(f: Point83, c: Found) -> Answer27
+    requires { ⌜ (Within 1000000000 (c .point .lat .0)) × (Within 1000000000 (c .point .lon .0))
+        × (Within 6000000 (orZero (outcome (c .shift)) .lat)) × (Within 6000000 (orZero (outcome (c .shift)) .lon)) ⌝ }
+    ensures { λ r. ⌜ outcome27 r ≡ settle f (c .point) (mapAnswer (answerOf (c .point)) (outcome (c .shift))) ⌝ }
 {
-    match forward(h, lat, lon, p) {
-        Answer83::Refused(why) => Answer27::Refused(why),
-        Answer83::Point(g) => settle(f, g, p),
+    let p = c.point;
+    let shift = c.shift;
+    match shift {
+        Interpolated::Refused(why) => Answer27::Refused(why),
+        Interpolated::At(s) => settle(f, answer_of(p, s), p),
     }
 }
 

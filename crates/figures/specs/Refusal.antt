@@ -10,7 +10,7 @@ numberOf (Refusal.Steep node) = 4
 numberOf (Refusal.NodeRoom nodes) = 5
 numberOf Refusal.OffGrid = 6
 numberOf Refusal.NoPoint = 7
-numberOf (Refusal.TextRoom bytes) = 8
+numberOf (Refusal.Room needed) = 8
 numberOf (Refusal.File limit) = 9
 
 abbrev pub placeOf : Refusal → ℕ
@@ -21,5 +21,5 @@ placeOf (Refusal.Steep node) = node
 placeOf (Refusal.NodeRoom nodes) = nodes
 placeOf Refusal.OffGrid = 0
 placeOf Refusal.NoPoint = 0
-placeOf (Refusal.TextRoom bytes) = bytes
+placeOf (Refusal.Room needed) = needed
 placeOf (Refusal.File limit) = limit

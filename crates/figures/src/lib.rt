@@ -69,8 +69,8 @@ pub enum Refusal {
     OffGrid,
     // 7: no point of the grid has this answer.
     NoPoint,
-    // 8: the bytes needed, which the lent room for text is shorter than.
-    TextRoom(usize),
+    // 8: the bytes of text, or the numbers, that are needed, which the lent room is shorter than.
+    Room(usize),
     // 9: 0 where the grid file can't be read, or the limit that it is longer than.
     File(usize),
 }
@@ -87,7 +87,7 @@ impl Refusal {
             Refusal::NodeRoom(_) => 5,
             Refusal::OffGrid => 6,
             Refusal::NoPoint => 7,
-            Refusal::TextRoom(_) => 8,
+            Refusal::Room(_) => 8,
             Refusal::File(_) => 9,
         }
     }
@@ -103,7 +103,7 @@ impl Refusal {
             Refusal::NodeRoom(nodes) => nodes,
             Refusal::OffGrid => 0,
             Refusal::NoPoint => 0,
-            Refusal::TextRoom(bytes) => bytes,
+            Refusal::Room(needed) => needed,
             Refusal::File(limit) => limit,
         }
     }

@@ -58,7 +58,7 @@ sound s S r g =
       north = λ k e. ltb-false _ _ (second-fails _ _ (neither (steepEast s S k) (steepNorth s S k) (g k (omega arith)) .1) (lt-ltb _ _ e));
     }
 
--- what `node_shift` gave, read back as an argument
+-- what `number_at` gave, read back as an argument
 module _ {n : ℕ} {S : List ℤ} (i : InRange n S) {k : ℕ} (l : k < n) {r : ℤ} (e : r ≡ node S k) where
   pub node-within : Within 6000000 (machine r)
   node-within = ensured-within e (i .range k l) tt

@@ -4,11 +4,12 @@ use super::Shape;
 use super::beyond_range;
 use super::rules::natural;
 use figures::Refusal;
+use slices::number_at;
 ghost use mathlib.Core.Path.{_≡_};
 ghost use Prim.Native.Nat.{_*_, _<_, _≤_};
 ghost use Rattle.laws.specs.Parts.{Within};
 ghost use Rattle.laws.specs.First.{first};
-ghost use Rattle.grid.specs.Nodes.{node, outOfRange, tooSteep, steepEast, steepNorth, steepNode, steepAt};
+ghost use Rattle.grid.specs.Nodes.{outOfRange, tooSteep, steepEast, steepNorth, steepNode, steepAt};
 ghost use Rattle.grid.specs.Check.{outcome, nodesVerdict};
 ghost use Rattle.grid.specs.Needs.{Extent, InRange};
 
@@ -86,7 +87,7 @@ fn steep_east(shape: Shape, s: &[i64], k: usize) -> bool
     ensures { λ r. ⌜ r ≡ steepEast shape (now (s .entry)) k ⌝ }
 {
     if k % shape.cols + 1 < shape.cols {
-        return too_steep(shape.dlon, node_shift(s, k), node_shift(s, k + 1));
+        return too_steep(shape.dlon, number_at(s, k), number_at(s, k + 1));
     }
     false
 }
@@ -98,7 +99,7 @@ fn steep_north(shape: Shape, s: &[i64], k: usize) -> bool
     ensures { λ r. ⌜ r ≡ steepNorth shape (now (s .entry)) k ⌝ }
 {
     if k + shape.cols < shape.rows * shape.cols {
-        return too_steep(shape.dlat, node_shift(s, k), node_shift(s, k + shape.cols));
+        return too_steep(shape.dlat, number_at(s, k), number_at(s, k + shape.cols));
     }
     false
 }
@@ -117,18 +118,8 @@ fn too_steep(spacing: usize, a: i64, b: i64) -> bool
 fn out_of_range<'a>(lat: &'a [i64], lon: &'a [i64], k: usize) -> bool
     ensures { λ r. ⌜ r ≡ outOfRange (now (lat .entry)) (now (lon .entry)) k ⌝ }
 {
-    if beyond_range(node_shift(lat, k)) {
+    if beyond_range(number_at(lat, k)) {
         return true;
     }
-    beyond_range(node_shift(lon, k))
-}
-
-// The shift of node `k`. Past the end of the slice it is 0, which no caller asks for: the room was checked before.
-fn node_shift(s: &[i64], k: usize) -> i64
-    ensures { λ r. ⌜ r ≡ node (now (s .entry)) k ⌝ }
-{
-    if k < s.len() {
-        return s[k];
-    }
-    0
+    beyond_range(number_at(lon, k))
 }

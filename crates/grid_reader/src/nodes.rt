@@ -3,10 +3,11 @@ use super::Scan;
 use super::Step;
 use super::Taken;
 use super::scanner;
+use slices::put;
 ghost use mathlib.Core.Path.{_≡_};
 ghost use Rattle.grid_reader.specs.Scan.{start, step, taken, fed};
 ghost use Prim.Native.Nat.{_≤_};
-ghost use lib.ListN.{length, set};
+ghost use lib.ListN.{length};
 ghost use Rattle.laws.specs.Over.{over};
 
 // Scans a text. The nodes go to the front of `lat` and `lon`.
@@ -45,15 +46,6 @@ fn take(s: Scan, byte: u8, room: usize, lat: &mut [i64], lon: &mut [i64]) -> Tak
             Taken::On(next)
         }
         Step::Refused(why) => Taken::Refused(why),
-    }
-}
-
-// An element of a list; behind its end there is none.
-fn put(list: &mut [i64], k: usize, x: i64)
-    ensures { λ r. ⌜ now (list .exit) ≡ set (now (list .entry)) k x ⌝ }
-{
-    if k < list.len() {
-        list[k] = x;
     }
 }
 

@@ -34,7 +34,7 @@ fn write_checked<'a>(h: Header, lat: &'a [i64], lon: &'a [i64], room: &mut [u8])
 {
     let needed = measure::text_length(h, lat, lon);
     if room.len() < needed {
-        return Written::Refused(Refusal::TextRoom(needed));
+        return Written::Refused(Refusal::Room(needed));
     }
     Written::Bytes(parts::put_grid(h, lat, lon, room))
 }

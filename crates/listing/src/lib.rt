@@ -63,7 +63,7 @@ fn write_sheet(h: Header, room: &mut [u8]) -> Written
     let sheet = Reply::Sheet(h.nodes() as i64);
     let n = sheet.write(room);
     if room.len() < n {
-        return Written::Refused(Refusal::TextRoom(n));
+        return Written::Refused(Refusal::Room(n));
     }
     Written::Bytes(n)
 }
@@ -86,7 +86,7 @@ pub fn feed<'a>(
     if lacks != 0 {
         return Fed {
             list,
-            written: Written::Refused(Refusal::TextRoom(lacks)),
+            written: Written::Refused(Refusal::Room(lacks)),
         };
     }
     let done = putting::put_replies(list, h, lat, lon, piece, room);
@@ -104,7 +104,7 @@ pub fn finish(list: Listing, room: &mut [u8]) -> Written
 {
     let needed = putting::put_end(list, &mut room[0..0]);
     if room.len() < needed {
-        return Written::Refused(Refusal::TextRoom(needed));
+        return Written::Refused(Refusal::Room(needed));
     }
     Written::Bytes(putting::put_end(list, room))
 }
@@ -133,7 +133,7 @@ fn list_checked<'a>(
 {
     let needed = putting::put_list(h, lat, lon, text, &mut room[0..0]);
     if room.len() < needed {
-        return Written::Refused(Refusal::TextRoom(needed));
+        return Written::Refused(Refusal::Room(needed));
     }
     Written::Bytes(putting::put_list(h, lat, lon, text, room))
 }

@@ -10,7 +10,7 @@ use lib.ListN.{length, take, drop}
 use lib.IntN.{ℤ, pos}
 use Rattle.laws.specs.Bytes.{bytes}
 use Rattle.figures.specs.Outcome.{Outcome, answered, refused, andThen, mapAnswer}
-use Rattle.figures.proofs.Laws.{answer-not-refusal, same-answer, both-answered}
+use Rattle.figures.proofs.Laws.{answer-not-refusal, same-answer, both-answered, refused-map, answered-map}
 use Rattle.laws.specs.Over.{over, length-over, over-take}
 use Rattle.grid.specs.Rules.{nodeCount}
 use Rattle.grid.specs.Check.{layout, verdict, Passes}
@@ -28,14 +28,6 @@ use Rattle.text_round_trip.proofs.Accepted.{Accepted, accepted, lines-f
 use Rattle.text_round_trip.proofs.ReadBack.{read-back}
 
 -- ---- an outcome that the code answers
-
-refused-map : {A B : Type 0} (f : A → B) (o : Outcome A) {n k : ℕ} → refused n k ≡ mapAnswer f o → o ≡ refused n k
-refused-map f (answered a) e = absurd (answer-not-refusal (sym e))
-refused-map f (refused m j) e = cc
-
-answered-map : {A B : Type 0} (f : A → B) (o : Outcome A) {b : B} → answered b ≡ mapAnswer f o → (a : A) × (o ≡ answered a) × (f a ≡ b)
-answered-map f (answered a) e = (a, refl, sym (same-answer e))
-answered-map f (refused m j) e = absurd (answer-not-refusal e)
 
 same-refusal : {A B : Type 0} {n k m j : ℕ} → _≡_ {A = Outcome A} (refused n k) (refused m j) → _≡_ {A = Outcome B} (refused n k) (refused m j)
 same-refusal {n} {k} {m} {j} e =

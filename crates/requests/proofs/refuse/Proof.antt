@@ -4,7 +4,7 @@ use mathlib.Core.Path.{ap, _∙_}
 use lib.IntN.{pos}
 use Rattle.decimal.proofs.Signs.{read-pos}
 use Rattle.requests.specs.declared.Reply.{Reply}
-use Rattle.requests.proofs.ReplyLaws.{number-small}
+use Rattle.figures.proofs.Laws.{number-small}
 use Rattle.requests.proofs.refuse.Statement.{statement}
 use Rattle.requests.proofs.refuse.Tie as tie
 

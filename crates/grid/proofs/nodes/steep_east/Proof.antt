@@ -19,20 +19,20 @@ rem-if1 c = search needs
 add-if1 : tie.Need-add-if1
 add-if1 c = let a = c .before .args in omega (arith, mod-le (a .k) (a .shape .cols))
 
-node-shift-requires : tie.Need-node-shift-requires
-node-shift-requires c κs = search needs
+number-at-requires : tie.Need-number-at-requires
+number-at-requires c κs = search needs
 
-add-node-shift : tie.Need-add-node-shift
-add-node-shift c = search needs
+add-number-at : tie.Need-add-number-at
+add-number-at c = search needs
 
-node-shift-requires-2 : tie.Need-node-shift-requires-2
-node-shift-requires-2 c κs = search needs
+number-at-requires-2 : tie.Need-number-at-requires-2
+number-at-requires-2 c κs = search needs
 
 too-steep-requires : tie.Need-too-steep-requires
 too-steep-requires c κs =
     let t = c .before .before in
     let s = t .before .before .before in
-    (s .pre .0 .dlon-high, node-within (s .pre .1 .0) (s .pre .1 .1) (c .before .node-shift .ensures), node-within (s .pre .1 .0) (there t) (c .node-shift2 .ensures))
+    (s .pre .0 .dlon-high, node-within (s .pre .1 .0) (s .pre .1 .1) (c .before .number-at .ensures), node-within (s .pre .1 .0) (there t) (c .number-at2 .ensures))
 
 returns : tie.Need-returns
 unfolding steepEast
@@ -40,8 +40,8 @@ returns c =
     let n = c .before in
     let t = n .before .before in
     let s = t .before .before .before in
-    let p = node-reads (s .pre .1 .0) (s .pre .1 .1) (n .before .node-shift .ensures) in
-    let q = node-reads (s .pre .1 .0) (there t) (n .node-shift2 .ensures) in
+    let p = node-reads (s .pre .1 .0) (s .pre .1 .1) (n .before .number-at .ensures) in
+    let q = node-reads (s .pre .1 .0) (there t) (n .number-at2 .ensures) in
     rw (lt-ltb _ _ (t .if1 .taken)) (c .too-steep .ensures ∙ (λ i. tooSteep (s .args .shape .dlon) (p i) (q i)))
 
 returns-2 : tie.Need-returns-2
@@ -54,9 +54,9 @@ steep-east-spec =
     (tie.spec
     rem-if1
     add-if1
-    node-shift-requires
-    add-node-shift
-    node-shift-requires-2
+    number-at-requires
+    add-number-at
+    number-at-requires-2
     too-steep-requires
     returns
     returns-2)

@@ -1,0 +1,62 @@
+// The conversions in plain C, for bench/points to compare times and answers with: the same exact arithmetic, and no checks at all. The
+// grid is trusted to pass the checks, every point to lie on the grid, and every NAD 83 figure to be the answer of a point.
+#include "points.h"
+
+// The nearest whole number to a fraction, a tie going away from zero. Without branches: the processor could not foretell them, and the
+// time would depend on the signs of the shifts.
+static inline int64_t rounded(int64_t numerator, int64_t denominator) {
+    int64_t q = numerator / denominator, r = numerator % denominator;
+    return q + (2 * r >= denominator) - (2 * r <= -denominator);
+}
+
+// The shifts at the point x east and y north of the southwest corner.
+static inline void shift_at(const struct grid *grid, int64_t x, int64_t y, int64_t *lat, int64_t *lon) {
+    int64_t dlat = grid->header[2], dlon = grid->header[3], rows = grid->header[4], cols = grid->header[5];
+    int64_t row = y / dlat, col = x / dlon;
+    // the north and the east edge belong to the last cells
+    if (row > rows - 2)
+        row = rows - 2;
+    if (col > cols - 2)
+        col = cols - 2;
+    int64_t a = x - col * dlon, b = dlon - a, c = y - row * dlat, d = dlat - c;
+    int64_t sw = row * cols + col, se = sw + 1, nw = sw + cols, ne = nw + 1;
+    *lat = rounded(grid->lat[sw] * b * d + grid->lat[se] * a * d + grid->lat[nw] * b * c + grid->lat[ne] * a * c, dlat * dlon);
+    *lon = rounded(grid->lon[sw] * b * d + grid->lon[se] * a * d + grid->lon[nw] * b * c + grid->lon[ne] * a * c, dlat * dlon);
+}
+
+void plain_to83(const struct grid *grid, const int64_t *restrict points, int64_t *restrict answers, size_t n) {
+    int64_t south = grid->header[0], west = grid->header[1];
+    for (size_t k = 0; k < n; k++) {
+        int64_t lat, lon;
+        shift_at(grid, points[2 * k + 1] - west, points[2 * k] - south, &lat, &lon);
+        answers[2 * k] = 100 * points[2 * k] + lat;
+        answers[2 * k + 1] = 100 * points[2 * k + 1] + lon;
+    }
+}
+
+// A hundredth, rounded, and moved to the nearest edge where it lies outside.
+static inline int64_t hundredth(int64_t v, int64_t limit) {
+    int64_t q = (v + 50) / 100;
+    return q < 0 ? 0 : q > limit ? limit : q;
+}
+
+// A fixed-point iteration: the point is the figure less the shift at the point. What it settles on is not confirmed.
+void plain_to27(const struct grid *grid, const int64_t *restrict points, int64_t *restrict answers, size_t n) {
+    int64_t south = grid->header[0], west = grid->header[1];
+    int64_t height = (grid->header[4] - 1) * grid->header[2], width = (grid->header[5] - 1) * grid->header[3];
+    for (size_t k = 0; k < n; k++) {
+        int64_t north = points[2 * k] - 100 * south, east = points[2 * k + 1] - 100 * west;
+        int64_t y = hundredth(north, height), x = hundredth(east, width);
+        for (int round = 0; round < 6; round++) {
+            int64_t lat, lon;
+            shift_at(grid, x, y, &lat, &lon);
+            int64_t next_y = hundredth(north - lat, height), next_x = hundredth(east - lon, width);
+            if (next_y == y && next_x == x)
+                break;
+            y = next_y;
+            x = next_x;
+        }
+        answers[2 * k] = y + south;
+        answers[2 * k + 1] = x + west;
+    }
+}

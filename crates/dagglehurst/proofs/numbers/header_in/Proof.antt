@@ -1,0 +1,48 @@
+use borrow.Author.Needs.{needs}
+use Rattle.grid_reader.specs.Reading.{header}
+use Rattle.dagglehurst.specs.Header.{headerIn}
+use Rattle.laws.specs.Tests.{told}
+use Rattle.dagglehurst.proofs.numbers.header_in.Statement.{statement}
+use Rattle.dagglehurst.proofs.numbers.header_in.Tie as tie
+
+number-at-requires : tie.Need-number-at-requires
+number-at-requires c κs = search needs
+
+number-at-requires-2 : tie.Need-number-at-requires-2
+number-at-requires-2 c κs = search needs
+
+number-at-requires-3 : tie.Need-number-at-requires-3
+number-at-requires-3 c κs = search needs
+
+number-at-requires-4 : tie.Need-number-at-requires-4
+number-at-requires-4 c κs = search needs
+
+number-at-requires-5 : tie.Need-number-at-requires-5
+number-at-requires-5 c κs = search needs
+
+number-at-requires-6 : tie.Need-number-at-requires-6
+number-at-requires-6 c κs = search needs
+
+returns : tie.Need-returns
+unfolding headerIn
+returns c =
+    let s = c .before .before .before .before .before in
+    let south = told (search needs) (s .number-at .ensures) in
+    let west = told (search needs) (c .before .before .before .before .number-at2 .ensures) in
+    let dlat = told (search needs) (c .before .before .before .number-at3 .ensures) in
+    let dlon = told (search needs) (c .before .before .number-at4 .ensures) in
+    let rows = told (search needs) (c .before .number-at5 .ensures) in
+    let cols = told (search needs) (c .number-at6 .ensures) in
+    λ i. header (south i) (west i) (dlat i) (dlon i) (rows i) (cols i)
+
+pub header-in-spec : {M : Type 1} → statement M
+header-in-spec =
+    tie.close
+    (tie.spec
+    number-at-requires
+    number-at-requires-2
+    number-at-requires-3
+    number-at-requires-4
+    number-at-requires-5
+    number-at-requires-6
+    returns)

@@ -1,0 +1,164 @@
+// The library for other languages: numbers and slices only, and one number as the answer (reply.rt). include/dagglehurst.h says what each
+// function does. A grid is a header, as a slice of six numbers, and its two node slices.
+mod numbers;
+mod reply;
+
+use convert::many::convert_all;
+use convert::pairs::Way;
+use convert::pairs::convert_pair;
+use grid::Checked;
+use grid_reader::GridRead;
+use numbers::header_in;
+use numbers::put_answer;
+use numbers::put_header;
+ghost use mathlib.Core.Path.{_≡_};
+ghost use Rattle.figures.specs.Outcome.{mapAnswer};
+ghost use Rattle.lines.specs.Writing.{roomAfter};
+ghost use Rattle.grid.specs.Rules.{nodesOf};
+ghost use Rattle.grid.specs.Check.{verdict};
+ghost use Rattle.grid_text.specs.Text.{gridText};
+ghost use Rattle.grid_text.specs.Writing.{writing};
+ghost use Rattle.grid_reader.specs.Reading.{latAfter, lonAfter};
+ghost use Rattle.requests.specs.Replies.{checkedAfresh};
+ghost use Rattle.listing.specs.Listing.{listing, listText};
+ghost use Rattle.dagglehurst.specs.Reply.{reply};
+ghost use Rattle.dagglehurst.specs.Header.{headerIn, readingAll, nodesIn, headerAfter};
+ghost use Rattle.convert.specs.Pairs.{converted};
+ghost use Rattle.convert.specs.Many.{convertingAll, answersAfter, refusalsAfter};
+ghost use Rattle.dagglehurst.specs.Points.{fitted, one, pairAfter};
+
+// Reads a grid's text.
+#[no_mangle]
+pub extern "C" fn dagglehurst_read(
+    text: &[u8],
+    header: &mut [i64],
+    lat: &mut [i64],
+    lon: &mut [i64],
+) -> u64
+    ensures answer { λ r. ⌜ r ≡ reply (mapAnswer nodesIn (readingAll (now (text .entry)) (now (header .entry)) (now (lat .entry)) (now (lon .entry)))) ⌝ }
+    ensures header { λ r. ⌜ now (header .exit) ≡ headerAfter (readingAll (now (text .entry)) (now (header .entry)) (now (lat .entry)) (now (lon .entry))) (now (header .entry)) ⌝ }
+    ensures lat { λ r. ⌜ now (lat .exit) ≡ latAfter (readingAll (now (text .entry)) (now (header .entry)) (now (lat .entry)) (now (lon .entry))) (now (lat .entry)) ⌝ }
+    ensures lon { λ r. ⌜ now (lon .exit) ≡ lonAfter (readingAll (now (text .entry)) (now (header .entry)) (now (lat .entry)) (now (lon .entry))) (now (lon .entry)) ⌝ }
+{
+    if header.len() < numbers::HEADER {
+        return reply::too_short(numbers::HEADER);
+    }
+    match grid_reader::read(text, lat, lon) {
+        GridRead::Refused(why) => reply::refused(why),
+        GridRead::Grid(h) => {
+            put_header(h, header);
+            reply::answered(h.nodes())
+        }
+    }
+}
+
+// Writes a grid's text.
+#[no_mangle]
+pub extern "C" fn dagglehurst_write<'a>(
+    header: &'a [i64],
+    lat: &'a [i64],
+    lon: &'a [i64],
+    room: &mut [u8],
+) -> u64
+    ensures answer { λ r. ⌜ r ≡ reply (writing (headerIn (now (header .entry))) (now (lat .entry)) (now (lon .entry)) (now (room .entry))) ⌝ }
+    ensures room { λ r. ⌜ now (room .exit) ≡ roomAfter (writing (headerIn (now (header .entry))) (now (lat .entry)) (now (lon .entry)) (now (room .entry))) (gridText (headerIn (now (header .entry))) (now (lat .entry)) (now (lon .entry))) (now (room .entry)) ⌝ }
+{
+    reply::written(grid_text::write(header_in(header), lat, lon, room))
+}
+
+// Checks a grid.
+#[no_mangle]
+pub extern "C" fn dagglehurst_check<'a>(header: &'a [i64], lat: &'a [i64], lon: &'a [i64]) -> u64
+    ensures { λ r. ⌜ r ≡ reply (mapAnswer (λ passed. nodesOf (headerIn (now (header .entry)))) (verdict (headerIn (now (header .entry))) (now (lat .entry)) (now (lon .entry)))) ⌝ }
+{
+    let h = header_in(header);
+    match grid::check(h, lat, lon) {
+        Checked::Refused(why) => reply::refused(why),
+        Checked::Passes => reply::answered(h.nodes()),
+    }
+}
+
+// Converts the NAD 27 point `north`, `east` to NAD 83.
+#[no_mangle]
+pub extern "C" fn dagglehurst_to83<'a>(
+    header: &'a [i64],
+    lat: &'a [i64],
+    lon: &'a [i64],
+    north: i64,
+    east: i64,
+    answer: &mut [i64],
+) -> u64
+    ensures answer { λ r. ⌜ r ≡ reply (mapAnswer one (fitted (converted Way.To83 (headerIn (now (header .entry))) (now (lat .entry)) (now (lon .entry)) north east) (now (answer .entry)))) ⌝ }
+    ensures room { λ r. ⌜ now (answer .exit) ≡ pairAfter (fitted (converted Way.To83 (headerIn (now (header .entry))) (now (lat .entry)) (now (lon .entry)) north east) (now (answer .entry))) (now (answer .entry)) ⌝ }
+{
+    let c = convert_pair(Way::To83, header_in(header), lat, lon, north, east);
+    put_answer(c, answer)
+}
+
+// Takes the NAD 83 figure `north`, `east` back to NAD 27.
+#[no_mangle]
+pub extern "C" fn dagglehurst_to27<'a>(
+    header: &'a [i64],
+    lat: &'a [i64],
+    lon: &'a [i64],
+    north: i64,
+    east: i64,
+    answer: &mut [i64],
+) -> u64
+    ensures answer { λ r. ⌜ r ≡ reply (mapAnswer one (fitted (converted Way.To27 (headerIn (now (header .entry))) (now (lat .entry)) (now (lon .entry)) north east) (now (answer .entry)))) ⌝ }
+    ensures room { λ r. ⌜ now (answer .exit) ≡ pairAfter (fitted (converted Way.To27 (headerIn (now (header .entry))) (now (lat .entry)) (now (lon .entry)) north east) (now (answer .entry))) (now (answer .entry)) ⌝ }
+{
+    let c = convert_pair(Way::To27, header_in(header), lat, lon, north, east);
+    put_answer(c, answer)
+}
+
+// Converts NAD 27 points to NAD 83, with one check of the grid.
+#[no_mangle]
+pub extern "C" fn dagglehurst_to83_all<'a>(
+    header: &'a [i64],
+    lat: &'a [i64],
+    lon: &'a [i64],
+    points: &'a [i64],
+    answers: &mut [i64],
+    refusals: &mut [u8],
+) -> u64
+    ensures answer { λ r. ⌜ r ≡ reply (convertingAll (headerIn (now (header .entry))) (now (lat .entry)) (now (lon .entry)) (now (points .entry)) (now (answers .entry)) (now (refusals .entry))) ⌝ }
+    ensures answers { λ r. ⌜ now (answers .exit) ≡ answersAfter (convertingAll (headerIn (now (header .entry))) (now (lat .entry)) (now (lon .entry)) (now (points .entry)) (now (answers .entry)) (now (refusals .entry))) (converted Way.To83 (headerIn (now (header .entry))) (now (lat .entry)) (now (lon .entry))) (now (points .entry)) (now (answers .entry)) ⌝ }
+    ensures refusals { λ r. ⌜ now (refusals .exit) ≡ refusalsAfter (convertingAll (headerIn (now (header .entry))) (now (lat .entry)) (now (lon .entry)) (now (points .entry)) (now (answers .entry)) (now (refusals .entry))) (converted Way.To83 (headerIn (now (header .entry))) (now (lat .entry)) (now (lon .entry))) (now (points .entry)) (now (refusals .entry)) ⌝ }
+{
+    let h = header_in(header);
+    reply::filled(convert_all(Way::To83, h, lat, lon, points, answers, refusals))
+}
+
+// Takes NAD 83 figures back to NAD 27, with one check of the grid.
+#[no_mangle]
+pub extern "C" fn dagglehurst_to27_all<'a>(
+    header: &'a [i64],
+    lat: &'a [i64],
+    lon: &'a [i64],
+    points: &'a [i64],
+    answers: &mut [i64],
+    refusals: &mut [u8],
+) -> u64
+    ensures answer { λ r. ⌜ r ≡ reply (convertingAll (headerIn (now (header .entry))) (now (lat .entry)) (now (lon .entry)) (now (points .entry)) (now (answers .entry)) (now (refusals .entry))) ⌝ }
+    ensures answers { λ r. ⌜ now (answers .exit) ≡ answersAfter (convertingAll (headerIn (now (header .entry))) (now (lat .entry)) (now (lon .entry)) (now (points .entry)) (now (answers .entry)) (now (refusals .entry))) (converted Way.To27 (headerIn (now (header .entry))) (now (lat .entry)) (now (lon .entry))) (now (points .entry)) (now (answers .entry)) ⌝ }
+    ensures refusals { λ r. ⌜ now (refusals .exit) ≡ refusalsAfter (convertingAll (headerIn (now (header .entry))) (now (lat .entry)) (now (lon .entry)) (now (points .entry)) (now (answers .entry)) (now (refusals .entry))) (converted Way.To27 (headerIn (now (header .entry))) (now (lat .entry)) (now (lon .entry))) (now (points .entry)) (now (refusals .entry)) ⌝ }
+{
+    let h = header_in(header);
+    reply::filled(convert_all(Way::To27, h, lat, lon, points, answers, refusals))
+}
+
+// Runs the list over request lines.
+#[no_mangle]
+pub extern "C" fn dagglehurst_list<'a>(
+    header: &'a [i64],
+    lat: &'a [i64],
+    lon: &'a [i64],
+    requests: &[u8],
+    room: &mut [u8],
+) -> u64
+    ensures answer { λ r. ⌜ r ≡ reply (listing (headerIn (now (header .entry))) (now (lat .entry)) (now (lon .entry)) (now (requests .entry)) (now (room .entry))) ⌝ }
+    ensures room { λ r. ⌜ now (room .exit) ≡ roomAfter (listing (headerIn (now (header .entry))) (now (lat .entry)) (now (lon .entry)) (now (requests .entry)) (now (room .entry))) (listText (nodesOf (headerIn (now (header .entry)))) (checkedAfresh (headerIn (now (header .entry))) (now (lat .entry)) (now (lon .entry))) (now (requests .entry))) (now (room .entry)) ⌝ }
+{
+    reply::written(listing::list(header_in(header), lat, lon, requests, room))
+}

@@ -1,0 +1,65 @@
+// Numbers in lent slices: a header, as south, west, dlat, dlon, rows and cols, and an answer, latitude first.
+use super::reply;
+use convert::pairs::Converted;
+use figures::Nad27;
+use grid::Header;
+use slices::number_at;
+use slices::put;
+ghost use mathlib.Core.Path.{_≡_};
+ghost use Prim.Native.Nat.{_≤_};
+ghost use lib.ListN.{length};
+ghost use Rattle.laws.specs.Over.{over};
+ghost use Rattle.figures.specs.Outcome.{mapAnswer};
+ghost use Rattle.convert.specs.Pairs.{outcome};
+ghost use Rattle.dagglehurst.specs.Reply.{reply};
+ghost use Rattle.dagglehurst.specs.Header.{headerIn, numbers};
+ghost use Rattle.dagglehurst.specs.Points.{fitted, one, pairAfter};
+
+// The numbers of a header.
+pub(crate) const HEADER: usize = 6;
+
+// The header in a slice. A number that the slice does not have is 0.
+pub(crate) fn header_in(s: &[i64]) -> Header
+    ensures { λ r. ⌜ r ≡ headerIn (now (s .entry)) ⌝ }
+{
+    Header {
+        south: Nad27(number_at(s, 0)),
+        west: Nad27(number_at(s, 1)),
+        dlat: number_at(s, 2),
+        dlon: number_at(s, 3),
+        rows: number_at(s, 4),
+        cols: number_at(s, 5),
+    }
+}
+
+pub(crate) fn put_header(h: Header, s: &mut [i64])
+    requires { ⌜ 6 ≤ length (now s) ⌝ }
+    ensures { λ r. ⌜ now (s .exit) ≡ over (numbers h) (now (s .entry)) ⌝ }
+{
+    let south = h.south;
+    let west = h.west;
+    put(s, 0, south.0);
+    put(s, 1, west.0);
+    put(s, 2, h.dlat);
+    put(s, 3, h.dlon);
+    put(s, 4, h.rows);
+    put(s, 5, h.cols);
+}
+
+// Stores one answer at the front of the room.
+pub(crate) fn put_answer(c: Converted, room: &mut [i64]) -> u64
+    ensures answer { λ r. ⌜ r ≡ reply (mapAnswer one (fitted (outcome c) (now (room .entry)))) ⌝ }
+    ensures room { λ r. ⌜ now (room .exit) ≡ pairAfter (fitted (outcome c) (now (room .entry))) (now (room .entry)) ⌝ }
+{
+    match c {
+        Converted::Refused(why) => reply::refused(why),
+        Converted::At(lat, lon) => {
+            if room.len() < 2 {
+                return reply::too_short(2);
+            }
+            room[0] = lat;
+            room[1] = lon;
+            reply::answered(1)
+        }
+    }
+}

@@ -1,0 +1,32 @@
+// Elements of lent slices, at places that they may not have.
+ghost use mathlib.Core.Path.{_≡_};
+ghost use lib.ListN.{getD, set};
+ghost use lib.IntN.{pos};
+
+// The number at a place; behind the end it is 0.
+pub fn number_at(s: &[i64], k: usize) -> i64
+    ensures { λ r. ⌜ r ≡ getD (now (s .entry)) k (pos 0) ⌝ }
+{
+    if k < s.len() {
+        return s[k];
+    }
+    0
+}
+
+// Stores a number at a place; behind the end nothing is stored.
+pub fn put(s: &mut [i64], k: usize, x: i64)
+    ensures { λ r. ⌜ now (s .exit) ≡ set (now (s .entry)) k x ⌝ }
+{
+    if k < s.len() {
+        s[k] = x;
+    }
+}
+
+// The same for a byte.
+pub fn put_byte(s: &mut [u8], k: usize, byte: u8)
+    ensures { λ r. ⌜ now (s .exit) ≡ set (now (s .entry)) k byte ⌝ }
+{
+    if k < s.len() {
+        s[k] = byte;
+    }
+}

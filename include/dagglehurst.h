@@ -1,0 +1,110 @@
+/* Dagglehurst: points between NAD 27 and NAD 83, over one region's shift grid.
+ *
+ * Every function here is proved to do what is said of it, for every input, where the memory is lent as said below.
+ *
+ * FIGURES. Latitude is positive north, longitude positive EAST. A NAD 27 figure counts thousandths of an arc second, a NAD 83
+ * figure hundred-thousandths.
+ *
+ * A GRID is a header and two slices of shifts (NAD 83 minus NAD 27, in hundred-thousandths of an arc second).
+ *   header    six numbers: south, west, dlat, dlon, rows, cols; edges and spacings in thousandths of an arc second. Numbers behind
+ *             the sixth are not looked at. A number that a shorter slice does not have counts as 0, so a header of fewer than six
+ *             numbers always breaks a rule: it has no columns.
+ *   lat, lon  the latitude and the longitude shift of each node, from the southernmost row north, each row from west to east.
+ *             Shifts behind the first rows x cols are not looked at.
+ *
+ * MEMORY. A slice is a pointer and the number of its elements; with 0 elements the pointer may be NULL. The pointer is aligned for
+ * its elements. The caller owns all memory, and nothing is kept after the call. A slice that is written (no `const`) does not overlap
+ * another slice of the same call, so points are not converted in place. Elements that are not said to be written stay as they were.
+ * A REFUSED CALL CHANGES NOTHING. Calls that share no written memory may be made at the same time.
+ *
+ * THE REPLY of each function is one number. dagglehurst_refusal(reply) is 0 where the call answered, or else the number of the
+ * refusal. dagglehurst_value(reply) is what the function answers, or else the place of the refusal. A value is at most 2^56 - 1,
+ * which stands for every larger one.
+ */
+#ifndef DAGGLEHURST_H
+#define DAGGLEHURST_H
+
+#include <stddef.h>
+#include <stdint.h>
+
+#ifdef __cplusplus
+extern "C" {
+#endif
+
+/* The numbers of the refusals, and their places. */
+enum {
+    DAGGLEHURST_FORM = 1,      /* a line of a grid's text is missing, extra or not of its form: its line, from 1 */
+    DAGGLEHURST_RULE = 2,      /* a rule of the header is broken: the first such rule, 1 to 9 */
+    DAGGLEHURST_RANGE = 3,     /* a shift is beyond 6,000,000 either way: the lowest such node, from 0 */
+    DAGGLEHURST_STEEP = 4,     /* a node is too steep to its east or north neighbour: the lowest such node */
+    DAGGLEHURST_NODE_ROOM = 5, /* lat or lon has fewer than rows x cols elements: rows x cols */
+    DAGGLEHURST_OFF_GRID = 6,  /* the NAD 27 point is off the grid: 0 */
+    DAGGLEHURST_NO_POINT = 7,  /* no point of the grid has this NAD 83 figure as its answer: 0 */
+    DAGGLEHURST_ROOM = 8       /* a slice that is lent for points or answers is too short: the elements needed */
+};
+
+/* The numbers of a header. */
+#define DAGGLEHURST_HEADER 6
+/* The most nodes that a grid has: node slices of this length take every grid. */
+#define DAGGLEHURST_MAX_NODES 2048
+/* No text that is accepted is longer. Read one byte more of a file, so that a longer one is not judged by its first part. */
+#define DAGGLEHURST_MAX_TEXT 48000
+
+/* 0 where the call answered, or the number of the refusal. */
+static inline unsigned dagglehurst_refusal(uint64_t reply) { return (unsigned)(reply & 255); }
+
+/* What the call answered, or the place of the refusal. */
+static inline uint64_t dagglehurst_value(uint64_t reply) { return reply >> 8; }
+
+/* Reads a grid's text. Writes the six numbers of its header to the front of `header` and its nodes to the front of `lat` and `lon`.
+ * Answers the number of nodes.
+ * Refuses 8 (place 6) where `header` has fewer than six elements; then, as the text goes on: 1 for the header lines, 2, 5, for each
+ * node line 1 and then 3, 1 for the end line and what follows it, and 4. */
+uint64_t dagglehurst_read(const uint8_t *text, size_t text_length, int64_t *header, size_t header_length, int64_t *lat,
+                          size_t lat_length, int64_t *lon, size_t lon_length);
+
+/* Writes a grid's text to the front of `room`. Answers the number of bytes. There is one text for each grid.
+ * Refuses 2, 5, 3, 4, then 8 (place: the bytes needed). */
+uint64_t dagglehurst_write(const int64_t *header, size_t header_length, const int64_t *lat, size_t lat_length, const int64_t *lon,
+                           size_t lon_length, uint8_t *room, size_t room_length);
+
+/* Checks a grid. Answers the number of nodes. Refuses 2, 5, 3, 4. */
+uint64_t dagglehurst_check(const int64_t *header, size_t header_length, const int64_t *lat, size_t lat_length, const int64_t *lon,
+                           size_t lon_length);
+
+/* Converts the NAD 27 point `north`, `east`. Writes its NAD 83 figure, latitude and longitude, to the front of `answer`. Answers 1.
+ * Refuses 2, 5, 3, 4, 6, then 8 (place 2) where `answer` has fewer than two elements. */
+uint64_t dagglehurst_to83(const int64_t *header, size_t header_length, const int64_t *lat, size_t lat_length, const int64_t *lon,
+                          size_t lon_length, int64_t north, int64_t east, int64_t *answer, size_t answer_length);
+
+/* Takes the NAD 83 figure `north`, `east` back. Writes the one NAD 27 point of the grid whose answer it is, latitude and longitude,
+ * to the front of `answer`. Answers 1.
+ * Refuses 2, 5, 3, 4, 7, then 8 (place 2) where `answer` has fewer than two elements. */
+uint64_t dagglehurst_to27(const int64_t *header, size_t header_length, const int64_t *lat, size_t lat_length, const int64_t *lon,
+                          size_t lon_length, int64_t north, int64_t east, int64_t *answer, size_t answer_length);
+
+/* Converts many NAD 27 points with one check of the grid. `points` has the latitude and the longitude of one point after the other:
+ * points_length / 2 points, n. For each point k: where it is on the grid, writes its NAD 83 figure to answers[2k] and
+ * answers[2k + 1], and 0 to refusals[k]; else leaves both answers as they were, and writes 6 to refusals[k]. Answers n.
+ * Refuses 2, 5, 3, 4, then 8: with place points_length + 1 where points_length is odd, with 2n where `answers` has fewer than 2n
+ * elements, with n where `refusals` has fewer than n. */
+uint64_t dagglehurst_to83_all(const int64_t *header, size_t header_length, const int64_t *lat, size_t lat_length, const int64_t *lon,
+                              size_t lon_length, const int64_t *points, size_t points_length, int64_t *answers,
+                              size_t answers_length, uint8_t *refusals, size_t refusals_length);
+
+/* The same from NAD 83 figures back to NAD 27 points, with 7 for a figure that is no point's answer. */
+uint64_t dagglehurst_to27_all(const int64_t *header, size_t header_length, const int64_t *lat, size_t lat_length, const int64_t *lon,
+                              size_t lon_length, const int64_t *points, size_t points_length, int64_t *answers,
+                              size_t answers_length, uint8_t *refusals, size_t refusals_length);
+
+/* Runs the list over request lines (`to83=LAT,LON` or `to27=LAT,LON`, each ended by a newline). Writes the whole list, from `sheet=`
+ * to `done=`, to the front of `room`. Answers the number of bytes.
+ * Refuses 2, 5, 3, 4, then 8 (place: the bytes needed). */
+uint64_t dagglehurst_list(const int64_t *header, size_t header_length, const int64_t *lat, size_t lat_length, const int64_t *lon,
+                          size_t lon_length, const uint8_t *requests, size_t requests_length, uint8_t *room, size_t room_length);
+
+#ifdef __cplusplus
+}
+#endif
+
+#endif

@@ -1,0 +1,336 @@
+//! Gives one input to the library and to the model, and compares the reply and all lent memory.
+
+use crate::coverage::{Call, Coverage};
+use crate::lent::{Element, Lent};
+use crate::library::{self, GridMemory, Many};
+use crate::model::{self, refuse, Grid, Refusal, Reply};
+use crate::model_text::{self, Content};
+
+/// A grid lent to the library, and the model's verdict on it: the number of nodes or a refusal.
+pub struct Case {
+    memory: GridMemory,
+    pub verdict: Reply<u64>,
+}
+
+impl Case {
+    /// `None` lends NULL. `behind` is what stands behind a header slice that was cut short.
+    pub fn new(header: Option<&[i64]>, behind: &[i64], lat: Option<&[i64]>, lon: Option<&[i64]>) -> Case {
+        let memory =
+            GridMemory { header: Lent::content(header, behind), lat: Lent::content(lat, &[]), lon: Lent::content(lon, &[]) };
+        let verdict = model::check(memory.header.original(), memory.lat.original(), memory.lon.original());
+        let verdict = verdict.map(|grid| grid.nodes() as u64);
+        Case { memory, verdict }
+    }
+
+    pub fn of(header: &[i64], lat: &[i64], lon: &[i64]) -> Case {
+        Case::new(Some(header), &[], Some(lat), Some(lon))
+    }
+
+    /// The grid, if it passed the checks.
+    pub fn grid(&self) -> Reply<Grid<'_>> {
+        let GridMemory { header, lat, lon } = &self.memory;
+        self.verdict.map(|_| Grid::unjudged(header.original(), lat.original(), lon.original()))
+    }
+
+    fn unchanged(&self) -> bool {
+        self.memory.header.unchanged() && self.memory.lat.unchanged() && self.memory.lon.unchanged()
+    }
+
+    fn account(&self) -> String {
+        let GridMemory { header, lat, lon } = &self.memory;
+        let start = |slice: &Lent<i64>| slice.original().iter().take(9).copied().collect::<Vec<_>>();
+        let (few_lat, few_lon) = (start(lat), start(lon));
+        format!("header {:?}, lat {few_lat:?} of {}, lon {few_lon:?} of {}", header.original(), lat.len(), lon.len())
+    }
+}
+
+pub struct Bench {
+    pub comparisons: u64,
+    pub coverage: Coverage,
+}
+
+/// Lengths of request lines, before the newline, that a run has to reach.
+const LINE_LENGTHS: [(usize, &str); 4] = [
+    (0, "list: empty line"),
+    (64, "list: line of 64 bytes"),
+    (65, "list: line of 65 bytes"),
+    (100_000, "list: line of 100,000 bytes"),
+];
+
+/// Prints what differed and ends the run.
+pub fn fail(call: Call, input: &str, expected: &str, got: &str) -> ! {
+    println!("differential: {} differs: expected {expected}, got {got}", call.name());
+    println!("  input: {input}");
+    std::process::exit(1);
+}
+
+/// A text as it would be written in a program, cut to a readable length.
+fn shown(text: &[u8]) -> String {
+    let cut = &text[..text.len().min(300)];
+    format!("\"{}\" ({} bytes)", cut.escape_ascii(), text.len())
+}
+
+fn nulls_of(memory: &GridMemory) -> [bool; 3] {
+    [memory.header.is_null(), memory.lat.is_null(), memory.lon.is_null()]
+}
+
+impl Bench {
+    pub fn new() -> Bench {
+        Bench { comparisons: 0, coverage: Coverage::new() }
+    }
+
+    /// Compares a reply: the refusal in the lowest 8 bits, the value or place above them.
+    fn reply(&mut self, call: Call, expected: &Reply<u64>, got: u64, input: impl Fn() -> String) {
+        self.comparisons += 1;
+        let (number, value) = match expected {
+            Ok(value) => (0, *value),
+            Err(refusal) => (refusal.number, refusal.place),
+        };
+        if got != value << 8 | u64::from(number) {
+            let expected = format!("refusal {number} value {value}");
+            fail(call, &input(), &expected, &format!("refusal {} value {}", got & 255, got >> 8));
+        }
+        match expected {
+            Ok(_) => self.coverage.answered(call),
+            Err(Refusal { number, place }) => self.coverage.refused(call, *number, *place),
+        }
+    }
+
+    /// Compares what a written slice holds: `front`, and behind it and around it what it held.
+    fn written<T: Element>(&self, call: Call, slice: &Lent<T>, front: &[T], input: impl Fn() -> String) {
+        if !slice.holds(front) {
+            let told = match slice.first_difference(front) {
+                Some((place, expected, got)) => (format!("{expected:?} at place {place}"), format!("{got:?}")),
+                None => (format!("a slice of {} elements", front.len()), format!("one of {}", slice.len())),
+            };
+            let state = if front.is_empty() { "refused, memory unchanged" } else { "answered" };
+            let around = format!("{} (in a written slice of {} elements; {state})", told.0, slice.len());
+            fail(call, &input(), &around, &told.1);
+        }
+    }
+
+    /// Fails unless slices that are only read hold what they held.
+    fn untouched(&self, call: Call, unchanged: bool, input: impl Fn() -> String) {
+        if !unchanged {
+            fail(call, &input(), "slices that are only read to stay", "a changed element in or beside one");
+        }
+    }
+
+    pub fn check(&mut self, case: &Case) {
+        let call = Call::Check;
+        self.coverage.lent(call, &nulls_of(&case.memory));
+        let got = library::check(&case.memory);
+        self.reply(call, &case.verdict, got, || case.account());
+        self.untouched(call, case.unchanged(), || case.account());
+    }
+
+    /// Compares the writing of a grid's text, whose length is the reply's value. The caller passes the text that is expected.
+    pub fn write(&mut self, case: &Case, text: &str, room: Option<usize>) {
+        let call = Call::Write;
+        let mut room = Lent::room(room);
+        let [header, lat, lon] = nulls_of(&case.memory);
+        self.coverage.lent(call, &[header, lat, lon, room.is_null()]);
+        let fits = |_| if room.len() < text.len() { refuse(8, text.len()) } else { Ok(text.len() as u64) };
+        let expected = case.verdict.and_then(fits);
+        let got = library::write(&case.memory, &mut room);
+        let account = || format!("{}, room {}", case.account(), room.len());
+        self.reply(call, &expected, got, account);
+        self.written(call, &room, if expected.is_ok() { text.as_bytes() } else { &[] }, account);
+        self.untouched(call, case.unchanged(), account);
+    }
+
+    /// Compares the reading of a text. `rooms` are the lengths of the header, latitude and longitude slices. Answers what
+    /// was read, if the text was accepted.
+    pub fn read(&mut self, text: Option<&[u8]>, behind: &[u8], rooms: [Option<usize>; 3]) -> Option<Content> {
+        let call = Call::Read;
+        let text = Lent::content(text, behind);
+        let [header, lat, lon] = rooms.map(Lent::room);
+        let mut memory = GridMemory { header, lat, lon };
+        let [header, lat, lon] = nulls_of(&memory);
+        self.coverage.lent(call, &[header, lat, lon, text.is_null()]);
+        let expected = if memory.header.len() < 6 {
+            refuse(8, 6)
+        } else {
+            model_text::read(text.original(), memory.lat.len(), memory.lon.len())
+        };
+        let got = library::read(&text, &mut memory);
+        let account = || format!("text {}, rooms {rooms:?}", shown(text.original()));
+        let value = expected.as_ref().map(|content| content.lat.len() as u64).map_err(|&refusal| refusal);
+        self.reply(call, &value, got, account);
+        let (header, lat, lon) = match &expected {
+            Ok(content) => (&content.header[..], &content.lat[..], &content.lon[..]),
+            Err(_) => (&[][..], &[][..], &[][..]),
+        };
+        self.written(call, &memory.header, header, account);
+        self.written(call, &memory.lat, lat, account);
+        self.written(call, &memory.lon, lon, account);
+        self.untouched(call, text.unchanged(), account);
+        self.mark_text(text.original());
+        expected.ok()
+    }
+
+    fn mark_text(&mut self, text: &[u8]) {
+        let has = |part: &[u8]| text.windows(part.len()).any(|window| window == part);
+        self.coverage.mark_if(text.is_empty(), "text: empty");
+        if text.len() < 400 {
+            self.coverage.mark_if(text.last().is_some_and(|&byte| byte != b'\n'), "text: last newline missing");
+            self.coverage.mark_if(has(b"\r\n"), "text: lines ended by CR LF");
+            self.coverage.mark_if(has(b"=-0\n"), "text: a -0");
+        }
+    }
+
+    /// Compares the conversion of one point or, for `Call::To27`, of one figure.
+    pub fn one(&mut self, call: Call, case: &Case, point: [i64; 2], room: Option<usize>) -> Reply<[i64; 2]> {
+        let mut answer = Lent::room(room);
+        let [header, lat, lon] = nulls_of(&case.memory);
+        self.coverage.lent(call, &[header, lat, lon, answer.is_null()]);
+        let converted = case.grid().and_then(|grid| convert(call, &grid, point));
+        let expected = if converted.is_ok() && answer.len() < 2 { refuse(8, 2) } else { converted };
+        let got = match call {
+            Call::To83 => library::to83(&case.memory, point, &mut answer),
+            _ => library::to27(&case.memory, point, &mut answer),
+        };
+        let account = || format!("point or figure {point:?}, {}, answer {room:?}", case.account());
+        self.reply(call, &expected.map(|_| 1), got, account);
+        self.written(call, &answer, expected.as_ref().map_or(&[], |found| &found[..]), account);
+        self.untouched(call, case.unchanged(), account);
+        converted
+    }
+
+    /// Compares the conversion of many points or figures. `rooms` are the lengths of the answers and of the refusals.
+    pub fn many(&mut self, call: Call, case: &Case, points: Option<&[i64]>, rooms: [Option<usize>; 2]) {
+        let given = points.unwrap_or(&[]);
+        let converted: Vec<_> = match case.grid() {
+            Ok(grid) => given.chunks_exact(2).map(|pair| convert(call, &grid, [pair[0], pair[1]])).collect(),
+            Err(_) => Vec::new(),
+        };
+        self.many_known(call, case, points, rooms, &converted);
+    }
+
+    /// The same where the caller already knows what each point is converted to.
+    pub fn many_known(
+        &mut self,
+        call: Call,
+        case: &Case,
+        points: Option<&[i64]>,
+        rooms: [Option<usize>; 2],
+        known: &[Reply<[i64; 2]>],
+    ) {
+        let (answers, refusals) = (Lent::room(rooms[0]), Lent::room(rooms[1]));
+        let mut many = Many { points: Lent::content(points, &[]), answers, refusals };
+        let [header, lat, lon] = nulls_of(&case.memory);
+        self.coverage.lent(call, &[header, lat, lon, many.points.is_null(), many.answers.is_null(), many.refusals.is_null()]);
+        let expected = case.verdict.and_then(|_| self.enough(&many));
+        let (mut answers, mut marks) = (Vec::new(), Vec::new());
+        if expected.is_ok() {
+            answers = many.answers.original()[..2 * known.len()].to_vec();
+            marks = vec![0; known.len()];
+            for (k, converted) in known.iter().enumerate() {
+                match converted {
+                    Ok(answer) => answers[2 * k..2 * k + 2].copy_from_slice(answer),
+                    Err(refusal) => marks[k] = refusal.number,
+                }
+            }
+            self.mark_many(&marks);
+        }
+        let got = match call {
+            Call::To83All => library::to83_all(&case.memory, &mut many),
+            _ => library::to27_all(&case.memory, &mut many),
+        };
+        let account = || format!("{}, {} coordinates, rooms {rooms:?}", case.account(), many.points.len());
+        self.reply(call, &expected, got, account);
+        self.comparisons += known.len() as u64;
+        self.name_first_difference(call, case, &many, &answers, &marks);
+        self.written(call, &many.answers, &answers, account);
+        self.written(call, &many.refusals, &marks, account);
+        self.untouched(call, many.points.unchanged() && case.unchanged(), account);
+    }
+
+    /// Among many points, names the one that differs rather than the whole slice.
+    fn name_first_difference(&self, call: Call, case: &Case, many: &Many, answers: &[i64], marks: &[u8]) {
+        let (points, found, flags) = (many.points.original(), many.answers.now(), many.refusals.now());
+        if found.starts_with(answers) && flags.starts_with(marks) {
+            return;
+        }
+        let differs = |k: &usize| found[2 * k..2 * k + 2] != answers[2 * k..2 * k + 2] || flags[*k] != marks[*k];
+        if let Some(k) = (0..marks.len()).find(differs) {
+            let pair = 2 * k..2 * k + 2;
+            let input = format!("point or figure {:?}, number {k}, {}", &points[pair.clone()], case.account());
+            let told = |answer: &[i64], mark: u8| format!("{answer:?} refusal {mark}");
+            fail(call, &input, &told(&answers[pair.clone()], marks[k]), &told(&found[pair], flags[k]));
+        }
+    }
+
+    /// Whether the slices of the functions for many points are long enough.
+    fn enough(&mut self, many: &Many) -> Reply<u64> {
+        let count = many.points.len() / 2;
+        if many.points.len() % 2 == 1 {
+            self.coverage.mark("many: odd number of coordinates");
+            return refuse(8, many.points.len() + 1);
+        }
+        if many.answers.len() < 2 * count {
+            self.coverage.mark("many: answers too short");
+            return refuse(8, 2 * count);
+        }
+        if many.refusals.len() < count {
+            self.coverage.mark("many: refusals too short");
+            return refuse(8, count);
+        }
+        Ok(count as u64)
+    }
+
+    fn mark_many(&mut self, marks: &[u8]) {
+        self.coverage.mark_if(marks.contains(&6), "many: point refused 6");
+        self.coverage.mark_if(marks.contains(&7), "many: figure refused 7");
+        self.coverage.mark_if(marks.is_empty(), "many: no points");
+    }
+
+    /// Compares a list; `room_for` makes the length of the room from the number of bytes needed.
+    pub fn list(&mut self, case: &Case, requests: Option<&[u8]>, behind: &[u8], room_for: impl Fn(usize) -> Option<usize>) {
+        let call = Call::List;
+        let requests = Lent::content(requests, behind);
+        let made = case.grid().map(|grid| model_text::list(&grid, requests.original()));
+        let needed = made.as_ref().map_or(100, |(text, _)| text.len());
+        let mut room = Lent::room(room_for(needed));
+        let [header, lat, lon] = nulls_of(&case.memory);
+        self.coverage.lent(call, &[header, lat, lon, requests.is_null(), room.is_null()]);
+        let expected = match &made {
+            Err(refusal) => Err(*refusal),
+            Ok(_) if room.len() < needed => refuse(8, needed),
+            Ok(_) => Ok(needed as u64),
+        };
+        let got = library::list(&case.memory, &requests, &mut room);
+        let account = || format!("requests {}, {}, room {}", shown(requests.original()), case.account(), room.len());
+        self.reply(call, &expected, got, account);
+        let front = made.as_ref().map_or("", |(text, _)| if expected.is_ok() { text } else { "" });
+        if expected.is_ok() && !room.now().starts_with(front.as_bytes()) {
+            fail(call, &account(), &shown(front.as_bytes()), &shown(&room.now()[..needed]));
+        }
+        self.written(call, &room, front.as_bytes(), account);
+        self.untouched(call, requests.unchanged() && case.unchanged(), account);
+        if let Ok((_, refused)) = made {
+            self.mark_list(requests.original(), refused);
+        }
+    }
+
+    fn mark_list(&mut self, requests: &[u8], [form, off, none]: [usize; 3]) {
+        let lines: Vec<&[u8]> = requests.split(|&byte| byte == b'\n').collect();
+        self.comparisons += lines.len() as u64 - 1;
+        self.coverage.mark_if(form > 0, "list: line refused 1");
+        self.coverage.mark_if(off > 0, "list: line refused 6");
+        self.coverage.mark_if(none > 0, "list: line refused 7");
+        self.coverage.mark_if(requests.is_empty(), "list: no lines");
+        self.coverage.mark_if(lines.last().is_some_and(|last| !last.is_empty()), "list: last line without newline");
+        for (length, mark) in LINE_LENGTHS {
+            self.coverage.mark_if(lines[..lines.len() - 1].iter().any(|line| line.len() == length), mark);
+        }
+        self.coverage.mark_if(lines.iter().any(|line| line.ends_with(b"\r")), "list: line ended by CR LF");
+    }
+}
+
+fn convert(call: Call, grid: &Grid, point: [i64; 2]) -> Reply<[i64; 2]> {
+    match call {
+        Call::To83 | Call::To83All => grid.to83(point),
+        _ => grid.to27(point),
+    }
+}

@@ -1,0 +1,149 @@
+//! Counts what the cases reached. A run that left an expected place out has not tested what it claims to, and fails.
+
+use std::collections::BTreeMap;
+
+#[derive(Clone, Copy, Debug, PartialEq)]
+pub enum Call {
+    Check,
+    Read,
+    Write,
+    To83,
+    To27,
+    To83All,
+    To27All,
+    List,
+}
+
+/// A function's name, the refusals it can give, and its slice parameters.
+struct Known {
+    name: &'static str,
+    refusals: &'static [usize],
+    slices: &'static [&'static str],
+}
+
+const KNOWN: [Known; 8] = [
+    Known { name: "check", refusals: &[2, 3, 4, 5], slices: &["header", "lat", "lon"] },
+    Known { name: "read", refusals: &[1, 2, 3, 4, 5, 8], slices: &["header", "lat", "lon", "text"] },
+    Known { name: "write", refusals: &[2, 3, 4, 5, 8], slices: &["header", "lat", "lon", "room"] },
+    Known { name: "to83", refusals: &[2, 3, 4, 5, 6, 8], slices: &["header", "lat", "lon", "answer"] },
+    Known { name: "to27", refusals: &[2, 3, 4, 5, 7, 8], slices: &["header", "lat", "lon", "answer"] },
+    Known { name: "to83_all", refusals: &[2, 3, 4, 5, 8], slices: &["header", "lat", "lon", "points", "answers", "refusals"] },
+    Known { name: "to27_all", refusals: &[2, 3, 4, 5, 8], slices: &["header", "lat", "lon", "points", "answers", "refusals"] },
+    Known { name: "list", refusals: &[2, 3, 4, 5, 8], slices: &["header", "lat", "lon", "requests", "room"] },
+];
+
+/// Everything else that a run has to reach.
+const MARKS: [&str; 45] = [
+    "point: tie, positive latitude shift",
+    "point: tie, negative latitude shift",
+    "point: tie, positive longitude shift",
+    "point: tie, negative longitude shift",
+    "point: south edge",
+    "point: north edge",
+    "point: west edge",
+    "point: east edge",
+    "point: corner",
+    "point: side shared by a south and a north cell",
+    "point: side shared by a west and an east cell",
+    "point: inner node",
+    "point: one off the south edge",
+    "point: one off the north edge",
+    "point: one off the west edge",
+    "point: one off the east edge",
+    "point: absurd",
+    "figure: back to an edge",
+    "figure: back to a corner",
+    "figure: one off an answer",
+    "figure: absurd",
+    "many: point refused 6",
+    "many: figure refused 7",
+    "many: odd number of coordinates",
+    "many: answers too short",
+    "many: refusals too short",
+    "many: no points",
+    "list: line refused 1",
+    "list: line refused 6",
+    "list: line refused 7",
+    "list: no lines",
+    "list: last line without newline",
+    "list: line of 64 bytes",
+    "list: line of 65 bytes",
+    "list: line of 100,000 bytes",
+    "list: line ended by CR LF",
+    "list: empty line",
+    "text: empty",
+    "text: last newline missing",
+    "text: lines ended by CR LF",
+    "text: a -0",
+    "text: read and written again",
+    "text: above 48,000 bytes",
+    "grid: 2,048 nodes",
+    "grid: every tiny point mapped",
+];
+
+pub struct Coverage {
+    refusals: [[u64; 9]; 8],
+    rules: [[u64; 10]; 8],
+    answers: [u64; 8],
+    nulls: [[u64; 6]; 8],
+    marks: BTreeMap<&'static str, u64>,
+}
+
+impl Coverage {
+    pub fn new() -> Coverage {
+        let marks = MARKS.iter().map(|&mark| (mark, 0)).collect();
+        Coverage { refusals: [[0; 9]; 8], rules: [[0; 10]; 8], answers: [0; 8], nulls: [[0; 6]; 8], marks }
+    }
+
+    pub fn answered(&mut self, call: Call) {
+        self.answers[call as usize] += 1;
+    }
+
+    pub fn refused(&mut self, call: Call, number: u8, place: u64) {
+        self.refusals[call as usize][number as usize] += 1;
+        if number == 2 {
+            self.rules[call as usize][place as usize] += 1;
+        }
+    }
+
+    /// Notes which slices, in the order of the table above, were lent as NULL.
+    pub fn lent(&mut self, call: Call, nulls: &[bool]) {
+        for (slice, &null) in nulls.iter().enumerate() {
+            self.nulls[call as usize][slice] += u64::from(null);
+        }
+    }
+
+    pub fn mark(&mut self, name: &'static str) {
+        *self.marks.get_mut(name).expect("the mark is in the table") += 1;
+    }
+
+    pub fn mark_if(&mut self, reached: bool, name: &'static str) {
+        if reached {
+            self.mark(name);
+        }
+    }
+
+    /// What no case reached.
+    pub fn missing(&self) -> Vec<String> {
+        let mut missing: Vec<String> = Vec::new();
+        for (k, known) in KNOWN.iter().enumerate() {
+            let mut need = |count: u64, what: String| {
+                if count == 0 {
+                    missing.push(format!("{}: {what}", known.name));
+                }
+            };
+            need(self.answers[k], "an answer".to_string());
+            known.refusals.iter().for_each(|&number| need(self.refusals[k][number], format!("refusal {number}")));
+            (1..=9).for_each(|rule| need(self.rules[k][rule], format!("header rule {rule}")));
+            known.slices.iter().enumerate().for_each(|(s, name)| need(self.nulls[k][s], format!("{name} lent as NULL")));
+        }
+        missing.extend(self.marks.iter().filter(|(_, &count)| count == 0).map(|(name, _)| name.to_string()));
+        missing
+    }
+}
+
+impl Call {
+    pub fn name(self) -> &'static str {
+        KNOWN[self as usize].name
+    }
+}

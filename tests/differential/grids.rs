@@ -1,0 +1,229 @@
+//! Grids: those that pass, and those broken on purpose.
+
+use crate::random::Random;
+
+pub const SHIFT_LIMIT: i64 = 6_000_000;
+pub const LAT_LIMIT: i64 = 323_940_000;
+pub const LON_LIMIT: i64 = 647_940_000;
+
+/// A grid owned by the test, as it will be lent.
+#[derive(Clone)]
+pub struct Plain {
+    pub header: Vec<i64>,
+    pub lat: Vec<i64>,
+    pub lon: Vec<i64>,
+}
+
+impl Plain {
+    pub fn rows(&self) -> i64 {
+        self.header[4]
+    }
+
+    pub fn cols(&self) -> i64 {
+        self.header[5]
+    }
+
+    pub fn nodes(&self) -> usize {
+        (self.rows() * self.cols()) as usize
+    }
+
+    /// The number of nodes that the header asks for, or `most` where the header is odd or asks for more.
+    pub fn nodes_within(&self, most: usize) -> usize {
+        let asked = i128::from(self.rows()) * i128::from(self.cols());
+        usize::try_from(asked).unwrap_or(most).min(most)
+    }
+}
+
+/// How the shifts of one component are chosen from what the neighbours allow.
+#[derive(Clone, Copy)]
+enum Style {
+    Constant,
+    Small(i64),
+    Random,
+    Steepest,
+    Rising,
+}
+
+const SHAPES: [[i64; 2]; 12] = [[2, 2], [2, 3], [3, 2], [3, 3], [4, 7], [2, 9], [9, 2], [5, 5], [2, 2], [3, 4], [2, 2], [3, 3]];
+const LARGE_SHAPES: [[i64; 2]; 6] = [[32, 64], [64, 32], [256, 8], [8, 256], [256, 2], [2, 256]];
+
+pub fn small_shape(random: &mut Random) -> [i64; 2] {
+    random.pick(&SHAPES)
+}
+
+pub fn large_shape(random: &mut Random) -> [i64; 2] {
+    random.pick(&LARGE_SHAPES)
+}
+
+/// A large shape now and then, for places above 255.
+pub fn mostly_small_shape(random: &mut Random) -> [i64; 2] {
+    if random.once_in(100) {
+        large_shape(random)
+    } else {
+        small_shape(random)
+    }
+}
+
+fn spacing(random: &mut Random) -> i64 {
+    match random.below(4) {
+        0 => random.pick(&[1_000, 1_001, 900_000, 899_999]),
+        1 => random.pick(&[1_024, 1_600, 2_000, 9_973, 450_000, 65_536]),
+        2 => random.between(1_000, 5_000),
+        _ => random.between(1_000, 900_000),
+    }
+}
+
+/// A low edge such that the grid fits: at one limit, at the other, around zero, or anywhere.
+fn low_edge(random: &mut Random, limit: i64, extent: i64) -> i64 {
+    let highest = limit - extent;
+    match random.below(5) {
+        0 => -limit,
+        1 => highest,
+        2 => (-extent / 2).clamp(-limit, highest),
+        3 => random.between(-1_000, 1_000).clamp(-limit, highest),
+        _ => random.between(-limit, highest),
+    }
+}
+
+/// A header that keeps every rule, for the given shape.
+pub fn header(random: &mut Random, [rows, cols]: [i64; 2]) -> Vec<i64> {
+    // A long side leaves room for a smaller spacing only.
+    let dlat = spacing(random).min(2 * LAT_LIMIT / (rows - 1));
+    let dlon = spacing(random).min(2 * LON_LIMIT / (cols - 1));
+    let south = low_edge(random, LAT_LIMIT, (rows - 1) * dlat);
+    let west = low_edge(random, LON_LIMIT, (cols - 1) * dlon);
+    vec![south, west, dlat, dlon, rows, cols]
+}
+
+fn style(random: &mut Random) -> Style {
+    match random.below(6) {
+        0 => Style::Constant,
+        1 => Style::Small(random.pick(&[1, 2, 5, 9, 60])),
+        2 => Style::Random,
+        3 => Style::Rising,
+        _ => Style::Steepest,
+    }
+}
+
+/// One component's shifts. Each node is chosen from the span that its west and south neighbours allow. That span is never empty:
+/// the two neighbours differ from their common southwest node by at most one step each.
+fn component(random: &mut Random, header: &[i64]) -> Vec<i64> {
+    let style = style(random);
+    let (north_step, east_step) = (100 * header[2] / 16, 100 * header[3] / 16);
+    let (rows, cols) = (header[4] as usize, header[5] as usize);
+    let base = random.pick(&[0, 0, 1, -1, SHIFT_LIMIT, -SHIFT_LIMIT, 42_000, -53_000]);
+    let base = if random.once_in(3) { random.between(-SHIFT_LIMIT, SHIFT_LIMIT) } else { base };
+    let mut shifts: Vec<i64> = Vec::with_capacity(rows * cols);
+    for node in 0..rows * cols {
+        let (mut low, mut high) = (-SHIFT_LIMIT, SHIFT_LIMIT);
+        if node % cols > 0 {
+            low = low.max(shifts[node - 1] - east_step);
+            high = high.min(shifts[node - 1] + east_step);
+        }
+        if node >= cols {
+            low = low.max(shifts[node - cols] - north_step);
+            high = high.min(shifts[node - cols] + north_step);
+        }
+        shifts.push(if node == 0 { base } else { choose(random, style, base, low, high) });
+    }
+    shifts
+}
+
+fn choose(random: &mut Random, style: Style, base: i64, low: i64, high: i64) -> i64 {
+    match style {
+        Style::Constant => base,
+        Style::Small(reach) => random.between(base - reach, base + reach).clamp(low, high),
+        Style::Random => random.between(low, high),
+        Style::Rising => high,
+        Style::Steepest => random.pick(&[low, high]),
+    }
+}
+
+pub fn passing(random: &mut Random, shape: [i64; 2]) -> Plain {
+    let header = header(random, shape);
+    with_header(random, header)
+}
+
+pub fn with_header(random: &mut Random, header: Vec<i64>) -> Plain {
+    let lat = component(random, &header);
+    let lon = component(random, &header);
+    Plain { header, lat, lon }
+}
+
+/// The grid of the paper's example, the corners of the hand example of USGS Bulletin 1875-B.
+pub fn paper_p() -> Plain {
+    let header = vec![117_900_000, -298_800_000, 450_000, 450_000, 2, 2];
+    Plain { header, lat: vec![53_000, 57_000, 51_000, 57_000], lon: vec![42_000, 49_000, 41_000, 49_000] }
+}
+
+/// The paper's grid with shifts of 0, 1 and -1, whose middle is a tie.
+pub fn paper_q() -> Plain {
+    Plain { header: vec![0, 0, 1_000, 1_000, 2, 2], lat: vec![0, 1, 0, 1], lon: vec![0, -1, 0, -1] }
+}
+
+/// Headers with one number at an edge of its rule, one off it, or absurd; and edges that meet the limits of rules 8 and 9.
+pub fn edge_headers() -> Vec<Vec<i64>> {
+    let base = [0, 0, 1_000, 1_000, 3, 4];
+    let edges: [&[i64]; 6] = [
+        &[-LAT_LIMIT, LAT_LIMIT - 2_000, LAT_LIMIT],
+        &[-LON_LIMIT, LON_LIMIT - 3_000, LON_LIMIT],
+        &[1_000, 900_000, LAT_LIMIT / 2],
+        &[1_000, 900_000, LON_LIMIT / 3],
+        &[2, 256, 512, 2_048],
+        &[2, 256, 512, 2_048],
+    ];
+    let far = [i64::MIN, i64::MIN + 1, -1, 0, 1, 1 << 31, 1 << 32, (1 << 32) + 3, i64::MAX - 1, i64::MAX];
+    let mut headers = vec![base.to_vec()];
+    for (place, edges) in edges.iter().enumerate() {
+        let close = edges.iter().flat_map(|&edge| [edge - 1, edge, edge + 1]);
+        for value in close.chain(far) {
+            let mut header = base.to_vec();
+            header[place] = value;
+            headers.push(header);
+        }
+    }
+    for (rows, cols) in
+        [(32, 64), (33, 64), (32, 65), (256, 8), (256, 9), (8, 256), (9, 256), (256, 256), (257, 2), (2, 257), (45, 45)]
+    {
+        headers.push(vec![0, 0, 1_000, 1_000, rows, cols]);
+    }
+    headers
+}
+
+/// A header with one to three numbers replaced by such as are at an edge or absurd.
+pub fn odd_header(random: &mut Random) -> Vec<i64> {
+    let shape = small_shape(random);
+    let mut odd = header(random, shape);
+    let limits = [LAT_LIMIT, LON_LIMIT, 900_000, 900_000, 256, 256];
+    let lows = [-LAT_LIMIT, -LON_LIMIT, 1_000, 1_000, 2, 2];
+    for _ in 0..=random.below(3) {
+        let place = random.below(6);
+        odd[place] = match random.below(4) {
+            0 => limits[place] + random.between(-1, 1),
+            1 => lows[place] + random.between(-1, 1),
+            2 => random.absurd(),
+            _ => odd[place].saturating_add(random.between(-1, 1)),
+        };
+    }
+    // Often move the grid so that its far edge is at the limit or one beyond it.
+    if random.once_in(2) {
+        let (place, limit) = random.pick(&[(0, LAT_LIMIT), (1, LON_LIMIT)]);
+        let extent = (odd[4 + place].wrapping_sub(1)).wrapping_mul(odd[2 + place]);
+        odd[place] = limit.wrapping_sub(extent).wrapping_add(random.between(-1, 1));
+    }
+    odd
+}
+
+/// Changes one to three nodes so that a shift may be out of range or a node too steep.
+pub fn disturb(random: &mut Random, grid: &mut Plain) {
+    for _ in 0..=random.below(3) {
+        let node = random.below(grid.nodes());
+        let component = if random.once_in(2) { &mut grid.lat } else { &mut grid.lon };
+        component[node] = match random.below(5) {
+            0 => random.pick(&[-1, 1]) * (SHIFT_LIMIT + random.between(0, 1)),
+            1 => random.absurd(),
+            2 => random.between(-SHIFT_LIMIT, SHIFT_LIMIT),
+            _ => component[node].saturating_add(random.between(-1, 1)),
+        };
+    }
+}

@@ -1,0 +1,220 @@
+//! The rules of the paper, implemented a second time: the checks of a grid, the shift, the way back.
+//!
+//! Everything is counted in i128, so that no product or sum of 64-bit numbers can overflow here.
+
+/// The number of a refusal and the place it reports.
+#[derive(Clone, Copy, Debug, PartialEq)]
+pub struct Refusal {
+    pub number: u8,
+    pub place: u64,
+}
+
+pub type Reply<T> = Result<T, Refusal>;
+
+pub fn refuse<T>(number: u8, place: usize) -> Reply<T> {
+    Err(Refusal { number, place: place as u64 })
+}
+
+pub const LARGEST_SHIFT: i128 = 6_000_000;
+const LAT_LIMIT: i128 = 323_940_000;
+const LON_LIMIT: i128 = 647_940_000;
+
+/// A header and nodes as a grid, not yet judged.
+#[derive(Clone, Copy)]
+pub struct Grid<'a> {
+    pub south: i128,
+    pub west: i128,
+    pub dlat: i128,
+    pub dlon: i128,
+    pub rows: i128,
+    pub cols: i128,
+    lat: &'a [i64],
+    lon: &'a [i64],
+}
+
+/// The grid, if it passes the checks.
+pub fn check<'a>(header: &[i64], lat: &'a [i64], lon: &'a [i64]) -> Reply<Grid<'a>> {
+    let grid = Grid::unjudged(header, lat, lon);
+    if let Some(rule) = grid.broken_rule() {
+        return refuse(2, rule);
+    }
+    let nodes = grid.nodes();
+    if lat.len() < nodes || lon.len() < nodes {
+        return refuse(5, nodes);
+    }
+    if let Some(node) = (0..nodes).find(|&k| !in_range(lat[k]) || !in_range(lon[k])) {
+        return refuse(3, node);
+    }
+    if let Some(node) = grid.steep_node() {
+        return refuse(4, node);
+    }
+    Ok(grid)
+}
+
+pub fn in_range(shift: i64) -> bool {
+    i128::from(shift).abs() <= LARGEST_SHIFT
+}
+
+impl<'a> Grid<'a> {
+    /// A number that the header slice does not have counts as 0.
+    pub fn unjudged(header: &[i64], lat: &'a [i64], lon: &'a [i64]) -> Grid<'a> {
+        let at = |k: usize| i128::from(header.get(k).copied().unwrap_or(0));
+        Grid { south: at(0), west: at(1), dlat: at(2), dlon: at(3), rows: at(4), cols: at(5), lat, lon }
+    }
+
+    /// The first header rule that is broken, from 1 to 9.
+    pub fn broken_rule(&self) -> Option<usize> {
+        // Rules 7 to 9 come into question only after the first six hold, so the products below are small then; for absurd numbers
+        // they stay within i128, as a product of two 64-bit numbers does.
+        let kept = [
+            self.south.abs() <= LAT_LIMIT,
+            self.west.abs() <= LON_LIMIT,
+            (1_000..=900_000).contains(&self.dlat),
+            (1_000..=900_000).contains(&self.dlon),
+            (2..=256).contains(&self.rows),
+            (2..=256).contains(&self.cols),
+            self.rows * self.cols <= 2_048,
+            self.north() <= LAT_LIMIT,
+            self.east() <= LON_LIMIT,
+        ];
+        kept.iter().position(|&holds| !holds).map(|index| index + 1)
+    }
+
+    pub fn nodes(&self) -> usize {
+        (self.rows * self.cols) as usize
+    }
+
+    pub fn north(&self) -> i128 {
+        self.south + (self.rows - 1) * self.dlat
+    }
+
+    pub fn east(&self) -> i128 {
+        self.west + (self.cols - 1) * self.dlon
+    }
+
+    /// The lowest node that is too steep to its east or north neighbour.
+    pub fn steep_node(&self) -> Option<usize> {
+        let (nodes, cols) = (self.nodes(), self.cols as usize);
+        let steep = |one: usize, other: usize, spacing: i128| {
+            [self.lat, self.lon]
+                .iter()
+                .any(|shifts| (i128::from(shifts[one]) - i128::from(shifts[other])).abs() * 16 > 100 * spacing)
+        };
+        (0..nodes).find(|&k| {
+            let has_east = k % cols + 1 < cols;
+            let has_north = k + cols < nodes;
+            (has_east && steep(k, k + 1, self.dlon)) || (has_north && steep(k, k + cols, self.dlat))
+        })
+    }
+
+    /// The shift of one component at a point on the grid, as numerator and denominator (USGS Bulletin 1875-B, equation 2).
+    fn fraction(&self, shifts: &[i64], lat: i128, lon: i128) -> (i128, i128) {
+        let (row, col) = (cell(lat - self.south, self.dlat), cell(lon - self.west, self.dlon));
+        let a = lon - self.west - col * self.dlon;
+        let c = lat - self.south - row * self.dlat;
+        let (b, d) = (self.dlon - a, self.dlat - c);
+        let first = (row * self.cols + col) as usize;
+        let above = first + self.cols as usize;
+        let s = |node: usize| i128::from(shifts[node]);
+        let sum = s(first) * b * d + s(first + 1) * a * d + s(above) * b * c + s(above + 1) * a * c;
+        (sum, (a + b) * (c + d))
+    }
+
+    pub fn lat_fraction(&self, lat: i128, lon: i128) -> (i128, i128) {
+        self.fraction(self.lat, lat, lon)
+    }
+
+    pub fn lon_fraction(&self, lat: i128, lon: i128) -> (i128, i128) {
+        self.fraction(self.lon, lat, lon)
+    }
+
+    fn lat_figure(&self, lat: i128, lon: i128) -> i128 {
+        100 * lat + nearest(self.lat_fraction(lat, lon))
+    }
+
+    fn lon_figure(&self, lat: i128, lon: i128) -> i128 {
+        100 * lon + nearest(self.lon_fraction(lat, lon))
+    }
+
+    pub fn holds(&self, lat: i128, lon: i128) -> bool {
+        self.south <= lat && lat <= self.north() && self.west <= lon && lon <= self.east()
+    }
+
+    /// The NAD 83 figure of a NAD 27 point.
+    pub fn to83(&self, point: [i64; 2]) -> Reply<[i64; 2]> {
+        let [lat, lon] = point.map(i128::from);
+        if !self.holds(lat, lon) {
+            return refuse(6, 0);
+        }
+        Ok([self.lat_figure(lat, lon) as i64, self.lon_figure(lat, lon) as i64])
+    }
+
+    /// The NAD 27 point whose answer is the NAD 83 figure `figure`, by two searches, one within the other.
+    ///
+    /// Why no point is missed. A shift is at most 6,000,000, so both coordinates of the point lie in the windows below. The
+    /// steepness rule allows a change of 100/16 = 6.25 in the shift for one thousandth along either axis. Rounding two shifts
+    /// changes their difference by at most 1.
+    /// - At one longitude, a step north adds at least 100 - 6.25 - 1 to the latitude figure, which therefore rises. So `row_at`
+    ///   finds the only latitude of that longitude that can have the latitude figure.
+    /// - A step north and a step east or west together add at least 100 - 12.5 - 1 to the latitude figure. So `row_at` of two
+    ///   neighbouring longitudes differs by at most 1.
+    /// - A step east along `row_at` thus adds at least 100 - 12.5 - 1 to the longitude figure, which therefore rises as well, and
+    ///   the outer search finds the only longitude that can have it.
+    ///
+    /// What the searches find is compared with the figure in the end, so nothing is answered wrongly.
+    pub fn to27(&self, figure: [i64; 2]) -> Reply<[i64; 2]> {
+        let [lat_figure, lon_figure] = figure.map(i128::from);
+        let (low_lat, high_lat) = window(lat_figure, self.south, self.north());
+        let (low_lon, high_lon) = window(lon_figure, self.west, self.east());
+        if low_lat > high_lat || low_lon > high_lon {
+            return refuse(7, 0);
+        }
+        let row_at = |lon| first(low_lat, high_lat, |lat| self.lat_figure(lat, lon) >= lat_figure).min(high_lat);
+        let lon = first(low_lon, high_lon, |lon| self.lon_figure(row_at(lon), lon) >= lon_figure).min(high_lon);
+        let lat = row_at(lon);
+        if self.lat_figure(lat, lon) != lat_figure || self.lon_figure(lat, lon) != lon_figure {
+            return refuse(7, 0);
+        }
+        Ok([lat as i64, lon as i64])
+    }
+}
+
+/// The cell, counted from 0, at a distance from the low edge. A point on a shared side is given to the lower of the two cells.
+fn cell(distance: i128, spacing: i128) -> i128 {
+    if distance == 0 {
+        0
+    } else {
+        (distance - 1) / spacing
+    }
+}
+
+/// The nearest whole number, a tie going away from zero.
+fn nearest((numerator, denominator): (i128, i128)) -> i128 {
+    let size = (2 * numerator.abs() + denominator) / (2 * denominator);
+    if numerator < 0 {
+        -size
+    } else {
+        size
+    }
+}
+
+/// The coordinates between two edges that can have `figure`: 100 times the coordinate is within the largest shift of it.
+fn window(figure: i128, low_edge: i128, high_edge: i128) -> (i128, i128) {
+    let low = (figure - LARGEST_SHIFT).div_euclid(100);
+    let high = (figure + LARGEST_SHIFT).div_euclid(100) + 1;
+    (low.max(low_edge), high.min(high_edge))
+}
+
+/// The least number from `low` to `high` at which `reached` holds, or `high` + 1. Once reached, it must stay reached.
+fn first(low: i128, high: i128, reached: impl Fn(i128) -> bool) -> i128 {
+    let (mut from, mut to) = (low, high + 1);
+    while from < to {
+        let middle = (from + to).div_euclid(2);
+        if reached(middle) {
+            to = middle;
+        } else {
+            from = middle + 1;
+        }
+    }
+    from
+}

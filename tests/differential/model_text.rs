@@ -1,0 +1,133 @@
+//! The text side of the paper, implemented a second time: the reader, the writer and the list.
+
+use crate::model::{check, in_range, refuse, Grid, Reply};
+
+/// What a text holds when it is accepted.
+pub struct Content {
+    pub header: Vec<i64>,
+    pub lat: Vec<i64>,
+    pub lon: Vec<i64>,
+}
+
+/// The lines of a text, taken one after the other.
+struct Lines<'a> {
+    rest: &'a [u8],
+    number: usize,
+}
+
+impl<'a> Lines<'a> {
+    /// The next line, judged by `form`. A line that is missing, lacks its newline or is not of its form is refused.
+    fn take<T>(&mut self, form: impl Fn(&[u8]) -> Option<T>) -> Reply<T> {
+        self.number += 1;
+        let Some(end) = self.rest.iter().position(|&byte| byte == b'\n') else {
+            return refuse(1, self.number);
+        };
+        let line = &self.rest[..end];
+        self.rest = &self.rest[end + 1..];
+        form(line).map_or(refuse(1, self.number), Ok)
+    }
+}
+
+/// A number is of its form exactly when writing its value again gives the same bytes; 11 digits are the most.
+fn number(bytes: &[u8]) -> Option<i64> {
+    let text = std::str::from_utf8(bytes).ok()?;
+    let value: i64 = text.parse().ok()?;
+    (value.unsigned_abs() <= 99_999_999_999 && value.to_string() == text).then_some(value)
+}
+
+fn named_number(line: &[u8], name: &[u8]) -> Option<i64> {
+    number(line.strip_prefix(name)?)
+}
+
+fn named_pair(line: &[u8], name: &[u8]) -> Option<[i64; 2]> {
+    let values = line.strip_prefix(name)?;
+    let comma = values.iter().position(|&byte| byte == b',')?;
+    Some([number(&values[..comma])?, number(&values[comma + 1..])?])
+}
+
+/// Reads a text, with `lat_room` and `lon_room` elements lent for the nodes.
+pub fn read(text: &[u8], lat_room: usize, lon_room: usize) -> Reply<Content> {
+    let mut lines = Lines { rest: text, number: 0 };
+    for fixed in ["from=NAD27", "to=NAD83"] {
+        lines.take(|line| (line == fixed.as_bytes()).then_some(()))?;
+    }
+    let mut header = Vec::new();
+    for name in ["south=", "west=", "dlat=", "dlon=", "rows=", "cols="] {
+        header.push(lines.take(|line| named_number(line, name.as_bytes()))?);
+    }
+    let shape = Grid::unjudged(&header, &[], &[]);
+    if let Some(rule) = shape.broken_rule() {
+        return refuse(2, rule);
+    }
+    let nodes = shape.nodes();
+    if lat_room < nodes || lon_room < nodes {
+        return refuse(5, nodes);
+    }
+    let (mut lat, mut lon) = (Vec::new(), Vec::new());
+    for node in 0..nodes {
+        let shifts = lines.take(|line| named_pair(line, b"node="))?;
+        if !shifts.into_iter().all(in_range) {
+            return refuse(3, node);
+        }
+        lat.push(shifts[0]);
+        lon.push(shifts[1]);
+    }
+    lines.take(|line| (named_number(line, b"end=")? == nodes as i64).then_some(()))?;
+    if !lines.rest.is_empty() {
+        return refuse(1, lines.number + 1);
+    }
+    check(&header, &lat, &lon)?;
+    Ok(Content { header, lat, lon })
+}
+
+/// The text of six header numbers and of as many nodes as there are, whether or not they pass the checks.
+pub fn text_of(header: &[i64], lat: &[i64], lon: &[i64]) -> String {
+    let mut text = String::from("from=NAD27\nto=NAD83\n");
+    for (name, value) in ["south", "west", "dlat", "dlon", "rows", "cols"].iter().zip(header) {
+        text += &format!("{name}={value}\n");
+    }
+    for (lat, lon) in lat.iter().zip(lon) {
+        text += &format!("node={lat},{lon}\n");
+    }
+    text + &format!("end={}\n", lat.len().min(lon.len()))
+}
+
+enum Request {
+    To83([i64; 2]),
+    To27([i64; 2]),
+}
+
+/// The request of a line that still has its newline, if it is of the form.
+fn request(line: &[u8]) -> Option<Request> {
+    let line = line.strip_suffix(b"\n")?;
+    if line.len() > 64 {
+        return None;
+    }
+    let to83 = named_pair(line, b"to83=").map(Request::To83);
+    to83.or_else(|| named_pair(line, b"to27=").map(Request::To27))
+}
+
+/// The list over the request lines, and how many lines were refused 1, 6 and 7.
+pub fn list(grid: &Grid, requests: &[u8]) -> (String, [usize; 3]) {
+    let mut out = format!("sheet={}\n", grid.nodes());
+    let (mut answered, mut refused) = (0, [0; 3]);
+    for line in requests.split_inclusive(|&byte| byte == b'\n') {
+        let (word, answer) = match request(line) {
+            None => ("", refuse(1, 0)),
+            Some(Request::To83(point)) => ("ok83", grid.to83(point)),
+            Some(Request::To27(figure)) => ("ok27", grid.to27(figure)),
+        };
+        match answer {
+            Ok([lat, lon]) => {
+                out += &format!("{word}={lat},{lon}\n");
+                answered += 1;
+            }
+            Err(refusal) => {
+                out += &format!("no={}\n", refusal.number);
+                refused[[1, 6, 7].iter().position(|&number| number == refusal.number).unwrap()] += 1;
+            }
+        }
+    }
+    out += &format!("done={},{}\n", answered, refused.iter().sum::<usize>());
+    (out, refused)
+}

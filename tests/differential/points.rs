@@ -1,0 +1,147 @@
+//! Points and figures over one grid, each converted alone and all of them together.
+
+use crate::compare::{Bench, Case};
+use crate::coverage::Call;
+use crate::grids::{self, Plain};
+use crate::model::Grid;
+use crate::random::Random;
+
+/// A coordinate along one axis of a grid: nodes, cell sides and middles, edges, one off, anywhere, absurd.
+fn coordinate(random: &mut Random, low: i64, spacing: i64, nodes: i64) -> i64 {
+    let high = low + (nodes - 1) * spacing;
+    let node = low + random.between(0, nodes - 1) * spacing;
+    match random.below(20) {
+        0..=3 => random.between(low, high),
+        4..=6 => node,
+        7 => node + random.pick(&[-1, 1]),
+        8..=10 => low + random.between(0, nodes - 2) * spacing + spacing / 2,
+        // Tenths and eighths of a cell give ties with small differences of the shifts.
+        11 | 12 => low + random.between(0, nodes - 2) * spacing + spacing * random.between(0, 10) / 10,
+        13 => low + random.between(0, nodes - 2) * spacing + spacing * random.between(0, 8) / 8,
+        14 | 15 => low + random.pick(&[-1, 0, 0, 1]),
+        16 | 17 => high + random.pick(&[-1, 0, 0, 1]),
+        18 => {
+            let edge = random.pick(&[low, high]);
+            random.near(edge)
+        }
+        _ if random.once_in(3) => random.absurd(),
+        _ => random.between(low - 200_000, high + 200_000),
+    }
+}
+
+pub fn point(random: &mut Random, header: &[i64]) -> [i64; 2] {
+    let lat = coordinate(random, header[0], header[2], header[4]);
+    let lon = coordinate(random, header[1], header[3], header[5]);
+    [lat, lon]
+}
+
+/// A figure: the answer of a point, one close to it, one near the edges, one far off, one absurd.
+pub fn figure(random: &mut Random, grid: &Grid, header: &[i64]) -> [i64; 2] {
+    let point = point(random, header);
+    let figure = grid.to83(point).unwrap_or(point.map(|part| part.saturating_mul(100)));
+    match random.below(12) {
+        0..=3 => figure,
+        4 => [figure[0].saturating_add(random.pick(&[-1, 1])), figure[1]],
+        5 => [figure[0], figure[1].saturating_add(random.pick(&[-1, 1]))],
+        6 => figure.map(|part| random.near(part)),
+        7 => figure.map(|part| part.saturating_add(random.pick(&[-100, -50, -2, 0, 2, 50, 100]))),
+        8 => figure.map(|part| part.saturating_add(random.between(-6_000_002, 6_000_002))),
+        9 => [random.absurd(), figure[1]],
+        10 => [figure[0], random.absurd()],
+        _ => [random.absurd(), random.absurd()],
+    }
+}
+
+/// Compares `count` points and as many figures over one grid.
+pub fn compare(bench: &mut Bench, random: &mut Random, plain: &Plain, count: usize) {
+    let case = Case::of(&plain.header, &plain.lat, &plain.lon);
+    bench.check(&case);
+    let Ok(grid) = case.grid() else { return };
+    bench.coverage.mark_if(grid.nodes() == 2_048, "grid: 2,048 nodes");
+    let (mut points, mut figures) = (Vec::new(), Vec::new());
+    let (mut found, mut back) = (Vec::new(), Vec::new());
+    for _ in 0..count {
+        let point = point(random, &plain.header);
+        found.push(bench.one(Call::To83, &case, point, Some(2)));
+        mark_point(bench, &grid, point);
+        points.extend(point);
+        let figure = figure(random, &grid, &plain.header);
+        let answer = bench.one(Call::To27, &case, figure, Some(2));
+        bench.coverage.mark_if(figure.iter().any(|part| part.unsigned_abs() > 1 << 40), "figure: absurd");
+        mark_back(bench, &grid, answer.ok());
+        back.push(answer);
+        figures.extend(figure);
+    }
+    let rooms = [Some(2 * count), Some(count)];
+    bench.many_known(Call::To83All, &case, Some(&points), rooms, &found);
+    bench.many_known(Call::To27All, &case, Some(&figures), rooms, &back);
+    around_answers(bench, random, &case, &points);
+}
+
+/// Takes back the answers of some points, and their eight neighbours one off, which are no answers.
+fn around_answers(bench: &mut Bench, random: &mut Random, case: &Case, points: &[i64]) {
+    let Ok(grid) = case.grid() else { return };
+    let chosen = 2 * random.below(points.len() / 2);
+    let Ok([lat, lon]) = grid.to83([points[chosen], points[chosen + 1]]) else { return };
+    let steps = [-1, 0, 1];
+    let around: Vec<i64> = steps.iter().flat_map(|a| steps.map(|b| [lat + a, lon + b])).flatten().collect();
+    bench.many(Call::To27All, case, Some(&around), [Some(20), Some(10)]);
+    bench.coverage.mark("figure: one off an answer");
+}
+
+/// Notes where a point lies and whether its shifts are ties.
+fn mark_point(bench: &mut Bench, grid: &Grid, point: [i64; 2]) {
+    let [lat, lon] = point.map(i128::from);
+    let (north, east) = (grid.north(), grid.east());
+    let inside = (grid.south <= lat && lat <= north, grid.west <= lon && lon <= east);
+    let marks = &mut bench.coverage;
+    marks.mark_if(lat.abs() > 1 << 40 || lon.abs() > 1 << 40, "point: absurd");
+    marks.mark_if(lat == grid.south - 1 && inside.1, "point: one off the south edge");
+    marks.mark_if(lat == north + 1 && inside.1, "point: one off the north edge");
+    marks.mark_if(lon == grid.west - 1 && inside.0, "point: one off the west edge");
+    marks.mark_if(lon == east + 1 && inside.0, "point: one off the east edge");
+    if inside != (true, true) {
+        return;
+    }
+    let on_edge = (lat == grid.south || lat == north, lon == grid.west || lon == east);
+    let on_side = ((lat - grid.south) % grid.dlat == 0 && !on_edge.0, (lon - grid.west) % grid.dlon == 0 && !on_edge.1);
+    marks.mark_if(lat == grid.south, "point: south edge");
+    marks.mark_if(lat == north, "point: north edge");
+    marks.mark_if(lon == grid.west, "point: west edge");
+    marks.mark_if(lon == east, "point: east edge");
+    marks.mark_if(on_edge == (true, true), "point: corner");
+    marks.mark_if(on_side.0, "point: side shared by a south and a north cell");
+    marks.mark_if(on_side.1, "point: side shared by a west and an east cell");
+    marks.mark_if(on_side == (true, true), "point: inner node");
+    let is_tie = |(numerator, denominator): (i128, i128)| 2 * (numerator % denominator).abs() == denominator;
+    let (lat_shift, lon_shift) = (grid.lat_fraction(lat, lon), grid.lon_fraction(lat, lon));
+    marks.mark_if(is_tie(lat_shift) && lat_shift.0 > 0, "point: tie, positive latitude shift");
+    marks.mark_if(is_tie(lat_shift) && lat_shift.0 < 0, "point: tie, negative latitude shift");
+    marks.mark_if(is_tie(lon_shift) && lon_shift.0 > 0, "point: tie, positive longitude shift");
+    marks.mark_if(is_tie(lon_shift) && lon_shift.0 < 0, "point: tie, negative longitude shift");
+}
+
+fn mark_back(bench: &mut Bench, grid: &Grid, point: Option<[i64; 2]>) {
+    let Some([lat, lon]) = point.map(|point| point.map(i128::from)) else { return };
+    let lat_edge = lat == grid.south || lat == grid.north();
+    let lon_edge = lon == grid.west || lon == grid.east();
+    bench.coverage.mark_if(lat_edge || lon_edge, "figure: back to an edge");
+    bench.coverage.mark_if(lat_edge && lon_edge, "figure: back to a corner");
+}
+
+/// One call of each function that takes a grid, for grids that may be refused. The slices for the answers are often too short as
+/// well, so that the order of the refusals shows.
+pub fn every_call(bench: &mut Bench, random: &mut Random, case: &Case, text: &str) {
+    let header = grids::paper_q().header;
+    let point = if random.once_in(4) { [random.absurd(), random.absurd()] } else { point(random, &header) };
+    let mut room = |needed: usize| random.pick(&[Some(needed), Some(needed), Some(needed + 3), Some(needed - 1), Some(0), None]);
+    bench.check(case);
+    bench.write(case, text, room(text.len()));
+    let _ = bench.one(Call::To83, case, point, room(2));
+    let _ = bench.one(Call::To27, case, point, room(2));
+    bench.many(Call::To83All, case, Some(&point), [room(2), room(1)]);
+    bench.many(Call::To27All, case, Some(&point), [room(2), room(1)]);
+    let choice = random.below(5);
+    let list_room = |needed| [Some(needed), Some(needed + 2), Some(needed - 1), Some(0), None][choice];
+    bench.list(case, Some(b"to83=0,0\nto27=0,0\n"), b"\n", list_room);
+}
