@@ -187,7 +187,16 @@ pub fn edge_headers() -> Vec<Vec<i64>> {
     {
         headers.push(vec![0, 0, 1_000, 1_000, rows, cols]);
     }
+    headers.extend(shapes_near_the_limit());
     headers
+}
+
+/// Every shape with about 2,048 nodes. There is none with 2,049, so that 2,050 is the next that is refused.
+fn shapes_near_the_limit() -> impl Iterator<Item = Vec<i64>> {
+    let shapes = (2..=256).flat_map(|rows| (2..=256).map(move |cols| (rows, cols)));
+    shapes
+        .filter(|(rows, cols)| (2_046..=2_052).contains(&(rows * cols)))
+        .map(|(rows, cols)| vec![0, 0, 1_000, 1_000, rows, cols])
 }
 
 /// A header with one to three numbers replaced by such as are at an edge or absurd.

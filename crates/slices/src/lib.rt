@@ -14,19 +14,19 @@ pub fn number_at(s: &[i64], k: usize) -> i64
 }
 
 // Stores a number at a place; behind the end nothing is stored.
-pub fn put(s: &mut [i64], k: usize, x: i64)
-    ensures { λ r. ⌜ now (s .exit) ≡ set (now (s .entry)) k x ⌝ }
+pub fn put(numbers: &mut [i64], k: usize, x: i64)
+    ensures { λ r. ⌜ now (numbers .exit) ≡ set (now (numbers .entry)) k x ⌝ }
 {
-    if k < s.len() {
-        s[k] = x;
+    if k < numbers.len() {
+        numbers[k] = x;
     }
 }
 
 // The same for a byte.
-pub fn put_byte(s: &mut [u8], k: usize, byte: u8)
-    ensures { λ r. ⌜ now (s .exit) ≡ set (now (s .entry)) k byte ⌝ }
+pub fn put_byte(bytes: &mut [u8], k: usize, byte: u8)
+    ensures { λ r. ⌜ now (bytes .exit) ≡ set (now (bytes .entry)) k byte ⌝ }
 {
-    if k < s.len() {
-        s[k] = byte;
+    if k < bytes.len() {
+        bytes[k] = byte;
     }
 }

@@ -4,8 +4,8 @@ use lib.Seq.{set-out}
 use Rattle.slices.proofs.put_byte.Statement.{statement}
 use Rattle.slices.proofs.put_byte.Tie as tie
 
-slice-write-s : tie.Need-slice-write-s
-slice-write-s c = search needs
+slice-write-bytes : tie.Need-slice-write-bytes
+slice-write-bytes c = search needs
 
 same-length : tie.Need-same-length
 same-length c = search needs
@@ -17,4 +17,4 @@ returns-2 : tie.Need-returns-2
 returns-2 c = sym (set-out _ _ _ (c .if1 .left))
 
 pub put-byte-spec : {M : Type 1} → statement M
-put-byte-spec = tie.close (tie.spec slice-write-s same-length returns returns-2)
+put-byte-spec = tie.close (tie.spec slice-write-bytes same-length returns returns-2)
