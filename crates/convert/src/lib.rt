@@ -17,10 +17,12 @@ use shift::Shift;
 ghost use mathlib.Core.Path.{_≡_};
 ghost use Rattle.laws.specs.Parts.{Within};
 ghost use Rattle.figures.specs.Outcome.{answered, mapAnswer};
+ghost use Rattle.grid.specs.Grid.{gridOf};
 ghost use Rattle.grid.specs.Check.{layout, Passes};
 ghost use Rattle.shift.specs.Shift.{outcome};
 ghost use Rattle.convert.specs.Points.{answerOf};
-ghost use Rattle.convert.specs.Convert.{outcome83, outcome27, to83, to27, forward, Returned, orZero, settle, inverse};
+ghost use Rattle.convert.specs.Convert.{outcome83, outcome27, to83, to27, forward};
+ghost use Rattle.convert.specs.Rounds.{orZero, settle, inverse};
 
 pub enum Answer83 {
     Point(Point83),
@@ -34,7 +36,7 @@ pub enum Answer27 {
 
 // A NAD 27 point's NAD 83 answer: 2, 5, 3, 4, then 6.
 pub fn to83<'a>(h: Header, lat: &'a [i64], lon: &'a [i64], p: Point27) -> Answer83
-    ensures { λ r. ⌜ outcome83 r ≡ to83 h (now (lat .entry)) (now (lon .entry)) p ⌝ }
+    ensures { λ r. ⌜ outcome83 r ≡ to83 (gridOf h (now (lat .entry)) (now (lon .entry))) p ⌝ }
 {
     match grid::check(h, lat, lon) {
         Checked::Refused(why) => Answer83::Refused(why),
@@ -44,8 +46,7 @@ pub fn to83<'a>(h: Header, lat: &'a [i64], lon: &'a [i64], p: Point27) -> Answer
 
 // The NAD 27 point on the grid whose answer is the figure: 2, 5, 3, 4, then 7.
 pub fn to27<'a>(h: Header, lat: &'a [i64], lon: &'a [i64], f: Point83) -> Answer27
-    ensures computed { λ r. ⌜ outcome27 r ≡ to27 h (now (lat .entry)) (now (lon .entry)) f ⌝ }
-    ensures meaning { λ r. ⌜ Returned h (now (lat .entry)) (now (lon .entry)) f (outcome27 r) ⌝ }
+    ensures { λ r. ⌜ outcome27 r ≡ to27 (gridOf h (now (lat .entry)) (now (lon .entry))) f ⌝ }
 {
     match grid::check(h, lat, lon) {
         Checked::Refused(why) => Answer27::Refused(why),
@@ -55,8 +56,8 @@ pub fn to27<'a>(h: Header, lat: &'a [i64], lon: &'a [i64], f: Point83) -> Answer
 
 // `to83` for a grid that the caller has had checked. It looks at the header and at one cell, and refuses what it finds there.
 pub fn forward<'a>(h: Header, lat: &'a [i64], lon: &'a [i64], p: Point27) -> Answer83
-    ensures computed { λ r. ⌜ outcome83 r ≡ forward h (now (lat .entry)) (now (lon .entry)) p ⌝ }
-    ensures checked { λ r. ⌜ (Passes h (now (lat .entry)) (now (lon .entry)) → outcome83 r ≡ to83 h (now (lat .entry)) (now (lon .entry)) p) ⌝ }
+    ensures computed { λ r. ⌜ outcome83 r ≡ forward (gridOf h (now (lat .entry)) (now (lon .entry))) p ⌝ }
+    ensures checked { λ r. ⌜ (Passes (gridOf h (now (lat .entry)) (now (lon .entry))) → outcome83 r ≡ to83 (gridOf h (now (lat .entry)) (now (lon .entry))) p) ⌝ }
 {
     match grid::check_layout(h, lat, lon) {
         Checked::Refused(why) => Answer83::Refused(why),
@@ -66,8 +67,8 @@ pub fn forward<'a>(h: Header, lat: &'a [i64], lon: &'a [i64], p: Point27) -> Ans
 
 // `to27` for a grid that the caller has had checked.
 pub fn inverse<'a>(h: Header, lat: &'a [i64], lon: &'a [i64], f: Point83) -> Answer27
-    ensures computed { λ r. ⌜ outcome27 r ≡ inverse h (now (lat .entry)) (now (lon .entry)) f ⌝ }
-    ensures checked { λ r. ⌜ (Passes h (now (lat .entry)) (now (lon .entry)) → outcome27 r ≡ to27 h (now (lat .entry)) (now (lon .entry)) f) ⌝ }
+    ensures computed { λ r. ⌜ outcome27 r ≡ inverse (gridOf h (now (lat .entry)) (now (lon .entry))) f ⌝ }
+    ensures checked { λ r. ⌜ (Passes (gridOf h (now (lat .entry)) (now (lon .entry))) → outcome27 r ≡ to27 (gridOf h (now (lat .entry)) (now (lon .entry))) f) ⌝ }
 {
     match grid::check_layout(h, lat, lon) {
         Checked::Refused(why) => Answer27::Refused(why),
@@ -76,8 +77,8 @@ pub fn inverse<'a>(h: Header, lat: &'a [i64], lon: &'a [i64], f: Point83) -> Ans
 }
 
 fn forward_on<'a>(h: Header, lat: &'a [i64], lon: &'a [i64], p: Point27) -> Answer83
-    requires { ⌜ layout h (now lat) (now lon) ≡ answered tt ⌝ }
-    ensures { λ r. ⌜ outcome83 r ≡ forward h (now (lat .entry)) (now (lon .entry)) p ⌝ }
+    requires { ⌜ layout (gridOf h (now lat) (now lon)) ≡ answered tt ⌝ }
+    ensures { λ r. ⌜ outcome83 r ≡ forward (gridOf h (now (lat .entry)) (now (lon .entry))) p ⌝ }
 {
     match offsets::place_of(h, p) {
         Place::Outside => Answer83::Refused(Refusal::OffGrid),
@@ -102,8 +103,8 @@ fn answer_of(p: Point27, s: Shift) -> Point83
 }
 
 fn inverse_on<'a>(h: Header, lat: &'a [i64], lon: &'a [i64], f: Point83) -> Answer27
-    requires { ⌜ layout h (now lat) (now lon) ≡ answered tt ⌝ }
-    ensures { λ r. ⌜ outcome27 r ≡ inverse h (now (lat .entry)) (now (lon .entry)) f ⌝ }
+    requires { ⌜ layout (gridOf h (now lat) (now lon)) ≡ answered tt ⌝ }
+    ensures { λ r. ⌜ outcome27 r ≡ inverse (gridOf h (now (lat .entry)) (now (lon .entry))) f ⌝ }
 {
     match offsets::target_of(h, f) {
         Place::Outside => Answer27::Refused(Refusal::NoPoint),

@@ -6,9 +6,10 @@ use lib.ListN.{length, getD}
 use lib.IntN.{ℤ, pos}
 use Rattle.laws.specs.Over.{over}
 use Rattle.figures.specs.Outcome.{Outcome, answered, refused, refuseIf}
+use Rattle.grid.specs.Grid.{header, Grid, gridOf}
 use Rattle.grid.specs.Rules.{nodesOf}
 use Rattle.grid.specs.declared.Header.{Header}
-use Rattle.grid_reader.specs.Reading.{Grid, reading, header}
+use Rattle.grid_reader.specs.Reading.{reading}
 
 -- a number that the slice does not have is 0
 abbrev number : List ℤ → ℕ → ℤ
@@ -17,6 +18,9 @@ number s k = getD s k (pos 0)
 -- so a slice of fewer than six numbers has no columns, and breaks a rule
 unfoldable pub headerIn : List ℤ → Header
 headerIn s = header (number s 0) (number s 1) (number s 2) (number s 3) (number s 4) (number s 5)
+
+abbrev pub gridIn : (header lat lon : List ℤ) → Grid
+gridIn header lat lon = gridOf (headerIn header) lat lon
 
 abbrev pub numbers : Header → List ℤ
 numbers h = h .south .0 ∷ h .west .0 ∷ h .dlat ∷ h .dlon ∷ h .rows ∷ h .cols ∷ []

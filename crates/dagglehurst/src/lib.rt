@@ -22,7 +22,7 @@ ghost use Rattle.grid_reader.specs.Reading.{latAfter, lonAfter};
 ghost use Rattle.requests.specs.Replies.{checkedAfresh};
 ghost use Rattle.listing.specs.Listing.{listing, listText};
 ghost use Rattle.dagglehurst.specs.Reply.{reply};
-ghost use Rattle.dagglehurst.specs.Header.{headerIn, readingAll, nodesIn, headerAfter};
+ghost use Rattle.dagglehurst.specs.Header.{headerIn, gridIn, readingAll, nodesIn, headerAfter};
 ghost use Rattle.convert.specs.Pairs.{converted};
 ghost use Rattle.convert.specs.Many.{convertingAll, answersAfter, refusalsAfter};
 ghost use Rattle.dagglehurst.specs.Points.{fitted, one, pairAfter};
@@ -60,8 +60,8 @@ pub extern "C" fn dagglehurst_write<'a>(
     lon: &'a [i64],
     room: &mut [u8],
 ) -> u64
-    ensures answer { λ r. ⌜ r ≡ reply (writing (headerIn (now (header .entry))) (now (lat .entry)) (now (lon .entry)) (now (room .entry))) ⌝ }
-    ensures room { λ r. ⌜ now (room .exit) ≡ roomAfter (writing (headerIn (now (header .entry))) (now (lat .entry)) (now (lon .entry)) (now (room .entry))) (gridText (headerIn (now (header .entry))) (now (lat .entry)) (now (lon .entry))) (now (room .entry)) ⌝ }
+    ensures answer { λ r. ⌜ r ≡ reply (writing (gridIn (now (header .entry)) (now (lat .entry)) (now (lon .entry))) (now (room .entry))) ⌝ }
+    ensures room { λ r. ⌜ now (room .exit) ≡ roomAfter (writing (gridIn (now (header .entry)) (now (lat .entry)) (now (lon .entry))) (now (room .entry))) (gridText (gridIn (now (header .entry)) (now (lat .entry)) (now (lon .entry)))) (now (room .entry)) ⌝ }
 {
     reply::written(grid_text::write(header_in(header), lat, lon, room))
 }
@@ -69,7 +69,7 @@ pub extern "C" fn dagglehurst_write<'a>(
 // Checks a grid.
 #[no_mangle]
 pub extern "C" fn dagglehurst_check<'a>(header: &'a [i64], lat: &'a [i64], lon: &'a [i64]) -> u64
-    ensures { λ r. ⌜ r ≡ reply (mapAnswer (λ passed. nodesOf (headerIn (now (header .entry)))) (verdict (headerIn (now (header .entry))) (now (lat .entry)) (now (lon .entry)))) ⌝ }
+    ensures { λ r. ⌜ r ≡ reply (mapAnswer (λ passed. nodesOf (headerIn (now (header .entry)))) (verdict (gridIn (now (header .entry)) (now (lat .entry)) (now (lon .entry))))) ⌝ }
 {
     let h = header_in(header);
     match grid::check(h, lat, lon) {
@@ -88,8 +88,8 @@ pub extern "C" fn dagglehurst_to83<'a>(
     east: i64,
     answer: &mut [i64],
 ) -> u64
-    ensures answer { λ r. ⌜ r ≡ reply (mapAnswer one (fitted (converted Way.To83 (headerIn (now (header .entry))) (now (lat .entry)) (now (lon .entry)) north east) (now (answer .entry)))) ⌝ }
-    ensures room { λ r. ⌜ now (answer .exit) ≡ pairAfter (fitted (converted Way.To83 (headerIn (now (header .entry))) (now (lat .entry)) (now (lon .entry)) north east) (now (answer .entry))) (now (answer .entry)) ⌝ }
+    ensures answer { λ r. ⌜ r ≡ reply (mapAnswer one (fitted (converted Way.To83 (gridIn (now (header .entry)) (now (lat .entry)) (now (lon .entry))) north east) (now (answer .entry)))) ⌝ }
+    ensures room { λ r. ⌜ now (answer .exit) ≡ pairAfter (fitted (converted Way.To83 (gridIn (now (header .entry)) (now (lat .entry)) (now (lon .entry))) north east) (now (answer .entry))) (now (answer .entry)) ⌝ }
 {
     let c = convert_pair(Way::To83, header_in(header), lat, lon, north, east);
     put_answer(c, answer)
@@ -105,8 +105,8 @@ pub extern "C" fn dagglehurst_to27<'a>(
     east: i64,
     answer: &mut [i64],
 ) -> u64
-    ensures answer { λ r. ⌜ r ≡ reply (mapAnswer one (fitted (converted Way.To27 (headerIn (now (header .entry))) (now (lat .entry)) (now (lon .entry)) north east) (now (answer .entry)))) ⌝ }
-    ensures room { λ r. ⌜ now (answer .exit) ≡ pairAfter (fitted (converted Way.To27 (headerIn (now (header .entry))) (now (lat .entry)) (now (lon .entry)) north east) (now (answer .entry))) (now (answer .entry)) ⌝ }
+    ensures answer { λ r. ⌜ r ≡ reply (mapAnswer one (fitted (converted Way.To27 (gridIn (now (header .entry)) (now (lat .entry)) (now (lon .entry))) north east) (now (answer .entry)))) ⌝ }
+    ensures room { λ r. ⌜ now (answer .exit) ≡ pairAfter (fitted (converted Way.To27 (gridIn (now (header .entry)) (now (lat .entry)) (now (lon .entry))) north east) (now (answer .entry))) (now (answer .entry)) ⌝ }
 {
     let c = convert_pair(Way::To27, header_in(header), lat, lon, north, east);
     put_answer(c, answer)
@@ -122,9 +122,9 @@ pub extern "C" fn dagglehurst_to83_all<'a>(
     answers: &mut [i64],
     refusals: &mut [u8],
 ) -> u64
-    ensures answer { λ r. ⌜ r ≡ reply (convertingAll (headerIn (now (header .entry))) (now (lat .entry)) (now (lon .entry)) (now (points .entry)) (now (answers .entry)) (now (refusals .entry))) ⌝ }
-    ensures answers { λ r. ⌜ now (answers .exit) ≡ answersAfter (convertingAll (headerIn (now (header .entry))) (now (lat .entry)) (now (lon .entry)) (now (points .entry)) (now (answers .entry)) (now (refusals .entry))) (converted Way.To83 (headerIn (now (header .entry))) (now (lat .entry)) (now (lon .entry))) (now (points .entry)) (now (answers .entry)) ⌝ }
-    ensures refusals { λ r. ⌜ now (refusals .exit) ≡ refusalsAfter (convertingAll (headerIn (now (header .entry))) (now (lat .entry)) (now (lon .entry)) (now (points .entry)) (now (answers .entry)) (now (refusals .entry))) (converted Way.To83 (headerIn (now (header .entry))) (now (lat .entry)) (now (lon .entry))) (now (points .entry)) (now (refusals .entry)) ⌝ }
+    ensures answer { λ r. ⌜ r ≡ reply (convertingAll (gridIn (now (header .entry)) (now (lat .entry)) (now (lon .entry))) (now (points .entry)) (now (answers .entry)) (now (refusals .entry))) ⌝ }
+    ensures answers { λ r. ⌜ now (answers .exit) ≡ answersAfter (convertingAll (gridIn (now (header .entry)) (now (lat .entry)) (now (lon .entry))) (now (points .entry)) (now (answers .entry)) (now (refusals .entry))) (converted Way.To83 (gridIn (now (header .entry)) (now (lat .entry)) (now (lon .entry)))) (now (points .entry)) (now (answers .entry)) ⌝ }
+    ensures refusals { λ r. ⌜ now (refusals .exit) ≡ refusalsAfter (convertingAll (gridIn (now (header .entry)) (now (lat .entry)) (now (lon .entry))) (now (points .entry)) (now (answers .entry)) (now (refusals .entry))) (converted Way.To83 (gridIn (now (header .entry)) (now (lat .entry)) (now (lon .entry)))) (now (points .entry)) (now (refusals .entry)) ⌝ }
 {
     let h = header_in(header);
     reply::filled(convert_all(Way::To83, h, lat, lon, points, answers, refusals))
@@ -140,9 +140,9 @@ pub extern "C" fn dagglehurst_to27_all<'a>(
     answers: &mut [i64],
     refusals: &mut [u8],
 ) -> u64
-    ensures answer { λ r. ⌜ r ≡ reply (convertingAll (headerIn (now (header .entry))) (now (lat .entry)) (now (lon .entry)) (now (points .entry)) (now (answers .entry)) (now (refusals .entry))) ⌝ }
-    ensures answers { λ r. ⌜ now (answers .exit) ≡ answersAfter (convertingAll (headerIn (now (header .entry))) (now (lat .entry)) (now (lon .entry)) (now (points .entry)) (now (answers .entry)) (now (refusals .entry))) (converted Way.To27 (headerIn (now (header .entry))) (now (lat .entry)) (now (lon .entry))) (now (points .entry)) (now (answers .entry)) ⌝ }
-    ensures refusals { λ r. ⌜ now (refusals .exit) ≡ refusalsAfter (convertingAll (headerIn (now (header .entry))) (now (lat .entry)) (now (lon .entry)) (now (points .entry)) (now (answers .entry)) (now (refusals .entry))) (converted Way.To27 (headerIn (now (header .entry))) (now (lat .entry)) (now (lon .entry))) (now (points .entry)) (now (refusals .entry)) ⌝ }
+    ensures answer { λ r. ⌜ r ≡ reply (convertingAll (gridIn (now (header .entry)) (now (lat .entry)) (now (lon .entry))) (now (points .entry)) (now (answers .entry)) (now (refusals .entry))) ⌝ }
+    ensures answers { λ r. ⌜ now (answers .exit) ≡ answersAfter (convertingAll (gridIn (now (header .entry)) (now (lat .entry)) (now (lon .entry))) (now (points .entry)) (now (answers .entry)) (now (refusals .entry))) (converted Way.To27 (gridIn (now (header .entry)) (now (lat .entry)) (now (lon .entry)))) (now (points .entry)) (now (answers .entry)) ⌝ }
+    ensures refusals { λ r. ⌜ now (refusals .exit) ≡ refusalsAfter (convertingAll (gridIn (now (header .entry)) (now (lat .entry)) (now (lon .entry))) (now (points .entry)) (now (answers .entry)) (now (refusals .entry))) (converted Way.To27 (gridIn (now (header .entry)) (now (lat .entry)) (now (lon .entry)))) (now (points .entry)) (now (refusals .entry)) ⌝ }
 {
     let h = header_in(header);
     reply::filled(convert_all(Way::To27, h, lat, lon, points, answers, refusals))
@@ -157,8 +157,8 @@ pub extern "C" fn dagglehurst_list<'a>(
     requests: &[u8],
     room: &mut [u8],
 ) -> u64
-    ensures answer { λ r. ⌜ r ≡ reply (listing (headerIn (now (header .entry))) (now (lat .entry)) (now (lon .entry)) (now (requests .entry)) (now (room .entry))) ⌝ }
-    ensures room { λ r. ⌜ now (room .exit) ≡ roomAfter (listing (headerIn (now (header .entry))) (now (lat .entry)) (now (lon .entry)) (now (requests .entry)) (now (room .entry))) (listText (nodesOf (headerIn (now (header .entry)))) (checkedAfresh (headerIn (now (header .entry))) (now (lat .entry)) (now (lon .entry))) (now (requests .entry))) (now (room .entry)) ⌝ }
+    ensures answer { λ r. ⌜ r ≡ reply (listing (gridIn (now (header .entry)) (now (lat .entry)) (now (lon .entry))) (now (requests .entry)) (now (room .entry))) ⌝ }
+    ensures room { λ r. ⌜ now (room .exit) ≡ roomAfter (listing (gridIn (now (header .entry)) (now (lat .entry)) (now (lon .entry))) (now (requests .entry)) (now (room .entry))) (listText (nodesOf (headerIn (now (header .entry)))) (checkedAfresh (gridIn (now (header .entry)) (now (lat .entry)) (now (lon .entry)))) (now (requests .entry))) (now (room .entry)) ⌝ }
 {
     reply::written(listing::list(header_in(header), lat, lon, requests, room))
 }

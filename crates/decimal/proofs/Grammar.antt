@@ -11,7 +11,7 @@ use lib.ListN.{length, getD, List·getD-append}
 use lib.Dec.{leb, eqb}
 use lib.IntN.{ℤ, pos, negsuc}
 use Rattle.laws.specs.Logic.{or-true, both, by-cond}
-use Rattle.decimal.specs.Spelling.{digits, spell, Short, isDigit, allDigits, valueFrom, isMagnitude, magnitudeIn, minus, plain, numberIn}
+use Rattle.decimal.specs.Spelling.{digits, spell, Short, isDigit, allDigits, valueFrom, isMagnitude, magnitudeIn, behindMinus, plain, numberIn}
 use Rattle.decimal.specs.Pushing.{none, part, pushedAll}
 use Rattle.decimal.specs.declared.Number.{Number}
 use Rattle.decimal.proofs.Bytes.{is-digit, digit-range}
@@ -111,14 +111,14 @@ plain-digits (b ∷ t) h = rw (ne-eqb b 45 (omega (arith, digit-range b (both (i
 pub grammar-spell : (x : ℤ) → Short x → numberIn (spell x) ≡ some x
 unfolding spell numberIn
 grammar-spell (pos n) h = plain-digits (digits n) (digits-digits n) ∙ ap plain (magnitude-digits n h)
-grammar-spell (negsuc n) h = ap minus (magnitude-digits (suc n) h)
+grammar-spell (negsuc n) h = ap behindMinus (magnitude-digits (suc n) h)
 
 plain-spell : (t : List ℕ) (o : Option ℕ) {x : ℤ} → magnitudeIn t ≡ o → plain o ≡ some x → (t ≡ spell x) × Short x
 unfolding spell
 plain-spell t (some n) {x} q e = subst (λ (y : ℤ). (t ≡ spell y) × Short y) (Option·some-injective (pos n) x e) (digits-magnitude t q)
 plain-spell t nothing {x} q e = absurd (Option·some-ne-none x (sym e))
 
-minus-spell : (t : List ℕ) (o : Option ℕ) {x : ℤ} → magnitudeIn t ≡ o → minus o ≡ some x → ((45 ∷ t) ≡ spell x) × Short x
+minus-spell : (t : List ℕ) (o : Option ℕ) {x : ℤ} → magnitudeIn t ≡ o → behindMinus o ≡ some x → ((45 ∷ t) ≡ spell x) × Short x
 unfolding spell
 minus-spell t (some (suc n)) {x} q e =
     let h = digits-magnitude t q in

@@ -52,10 +52,10 @@ unfoldable pub magnitudeIn : List ℕ → Option ℕ
 magnitudeIn t = cond (isMagnitude t) (some (valueFrom 0 t)) none
 
 -- behind a minus there is no 0
-abbrev pub minus : Option ℕ → Option ℤ
-minus none = none
-minus (some zero) = none
-minus (some (suc n)) = some (negsuc n)
+abbrev pub behindMinus : Option ℕ → Option ℤ
+behindMinus none = none
+behindMinus (some zero) = none
+behindMinus (some (suc n)) = some (negsuc n)
 
 abbrev pub plain : Option ℕ → Option ℤ
 plain none = none
@@ -64,4 +64,4 @@ plain (some n) = some (pos n)
 -- the number that a text is
 unfoldable pub numberIn : List ℕ → Option ℤ
 numberIn [] = none
-numberIn (b ∷ t) = cond (eqb b 45) (minus (magnitudeIn t)) (plain (magnitudeIn (b ∷ t)))
+numberIn (b ∷ t) = cond (eqb b 45) (behindMinus (magnitudeIn t)) (plain (magnitudeIn (b ∷ t)))

@@ -11,10 +11,10 @@ use lib.Seq.{getD-take}
 use lib.IntN.{ℤ, pos}
 use Rattle.laws.specs.First.{first-same}
 use Rattle.figures.specs.Outcome.{Outcome, answered, refused, andThen}
+use Rattle.grid.specs.Grid.{Grid, trimmed}
 use Rattle.grid.specs.Rules.{shape, nodeCount}
 use Rattle.grid.specs.Nodes.{node, beyondRange, outOfRange, tooSteep, steepEast, steepNorth, steepNode, steepAt}
 use Rattle.grid.specs.Check.{layout, steepness, nodesVerdict, verdict}
-use Rattle.grid.specs.declared.Header.{Header}
 use Rattle.grid.specs.declared.Shape.{Shape}
 use Rattle.grid.proofs.RuleLaws.{extent}
 use Rattle.grid.proofs.NodeLaws.{east-in}
@@ -46,9 +46,9 @@ module _ (s : Shape) (some-cols : 0 < s .cols) where
         first-same (steepAt s (take n lat) (take n lon)) (steepAt s lat lon) n (λ j l i. steep-front lat j l i || steep-front lon j l i),
       )
 
-module _ (h : Header) (lat lon : List ℤ) where
+module _ (g : Grid) where
   abbrev count : ℕ
-  count = nodeCount h
+  count = nodeCount (g .header)
 
   short-front : (S : List ℤ) → ltb (length (take count S)) count ≡ ltb (length S) count
   short-front S = go (ltb (length S) count) refl
@@ -57,14 +57,14 @@ module _ (h : Header) (lat lon : List ℤ) where
       go true e = lt-ltb (length (take count S)) count (omega (arith, length-take count S, ltb-true (length S) count e))
       go false e = le-ltb (length (take count S)) count (omega (arith, length-take count S, ltb-false (length S) count e))
 
-  layout-front : layout h (take count lat) (take count lon) ≡ layout h lat lon
+  layout-front : layout (trimmed g) ≡ layout g
   unfolding layout
-  layout-front = rw (short-front lat, short-front lon)
+  layout-front = rw (short-front (g .lat), short-front (g .lon))
 
-  pub verdict-front : verdict h (take count lat) (take count lon) ≡ verdict h lat lon
+  pub verdict-front : verdict (trimmed g) ≡ verdict g
   unfolding verdict
-  verdict-front = rw layout-front (go (layout h lat lon) refl)
+  verdict-front = rw layout-front (go (layout g) refl)
     where
-      go : (o : Outcome Unit) → layout h lat lon ≡ o → andThen o (nodesVerdict (shape h) (take count lat) (take count lon)) ≡ andThen o (nodesVerdict (shape h) lat lon)
-      go (answered tt) e = nodes-front (shape h) (omega (arith, extent (laid h lat lon e .header) .cols-low)) lat lon
+      go : (o : Outcome Unit) → layout g ≡ o → andThen o (nodesVerdict (shape (g .header)) (take count (g .lat)) (take count (g .lon))) ≡ andThen o (nodesVerdict (shape (g .header)) (g .lat) (g .lon))
+      go (answered tt) e = nodes-front (shape (g .header)) (omega (arith, extent (laid g e .header) .cols-low)) (g .lat) (g .lon)
       go (refused n k) e = refl

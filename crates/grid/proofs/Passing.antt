@@ -12,35 +12,35 @@ use Rattle.laws.specs.First.{first, first-is, first-none}
 use Rattle.laws.specs.Logic.{neither}
 use Rattle.figures.specs.Outcome.{answered, refused}
 use Rattle.figures.proofs.Laws.{both-answered, not-refused}
+use Rattle.grid.specs.Grid.{Grid}
 use Rattle.grid.specs.Rules.{brokenRule, shape, nodeCount}
 use Rattle.grid.specs.Nodes.{node, beyondRange, outOfRange, steepNode, steepAt}
 use Rattle.grid.specs.Check.{layout, steepness, nodesVerdict, verdict, Passes}
 use Rattle.grid.specs.Needs.{InRange}
-use Rattle.grid.specs.declared.Header.{Header}
 use Rattle.grid.specs.declared.Shape.{Shape}
 use Rattle.grid.proofs.RuleLaws.{RulesHold, rules-hold}
 use Rattle.grid.proofs.NodeLaws.{in-range, Sound, sound}
 
 -- ---- each answer of the code
 
-module _ (h : Header) (lat lon : List ℤ) where
+module _ (g : Grid) where
   abbrev n : ℕ
-  n = shape h .rows * shape h .cols
+  n = shape (g .header) .rows * shape (g .header) .cols
 
-  pub rule-broken : {r : ℕ} → r ≡ brokenRule h → (r ≡ 0 → ⊥) → refused 2 r ≡ layout h lat lon
+  pub rule-broken : {r : ℕ} → r ≡ brokenRule (g .header) → (r ≡ 0 → ⊥) → refused 2 r ≡ layout g
   unfolding layout
   rule-broken e z = rw (← e, ne-eqb _ _ z)
 
-  module _ (e : brokenRule h ≡ 0) where
-    pub short-lat : length lat < n → refused 5 n ≡ layout h lat lon
+  module _ (e : brokenRule (g .header) ≡ 0) where
+    pub short-lat : length (g .lat) < n → refused 5 n ≡ layout g
     unfolding layout
     short-lat a = rw (e, lt-ltb _ _ a)
 
-    pub short-lon : n ≤ length lat → length lon < n → refused 5 n ≡ layout h lat lon
+    pub short-lon : n ≤ length (g .lat) → length (g .lon) < n → refused 5 n ≡ layout g
     unfolding layout
     short-lon a b = rw (e, le-ltb _ _ a, lt-ltb _ _ b)
 
-    pub room : n ≤ length lat → n ≤ length lon → answered tt ≡ layout h lat lon
+    pub room : n ≤ length (g .lat) → n ≤ length (g .lon) → answered tt ≡ layout g
     unfolding layout
     room a b = rw (e, le-ltb _ _ a, le-ltb _ _ b)
 
@@ -66,39 +66,39 @@ module _ (s : Shape) (lat lon : List ℤ) {f : ℕ} (e : f ≡ first (outOfRange
     unfolding nodesVerdict steepness
     nodes-pass m = rw (← e, le-ltb _ _ l, ← d, le-ltb _ _ m)
 
-module _ (h : Header) (lat lon : List ℤ) where
-  pub layout-refused : {n k : ℕ} → refused n k ≡ layout h lat lon → refused n k ≡ verdict h lat lon
+module _ (g : Grid) where
+  pub layout-refused : {n k : ℕ} → refused n k ≡ layout g → refused n k ≡ verdict g
   unfolding verdict
   layout-refused e = rw (← e)
 
-  pub layout-passes : answered tt ≡ layout h lat lon → nodesVerdict (shape h) lat lon ≡ verdict h lat lon
+  pub layout-passes : answered tt ≡ layout g → nodesVerdict (shape (g .header)) (g .lat) (g .lon) ≡ verdict g
   unfolding verdict
   layout-passes e = rw (← e)
 
 -- ---- what the checks leave
 
-pub record Laid (h : Header) (lat lon : List ℤ) : Type 0 where
-  pub unbroken : brokenRule h ≡ 0
-  pub header : RulesHold h
-  pub room-lat : shape h .rows * shape h .cols ≤ length lat
-  pub room-lon : shape h .rows * shape h .cols ≤ length lon
+pub record Laid (g : Grid) : Type 0 where
+  pub unbroken : brokenRule (g .header) ≡ 0
+  pub header : RulesHold (g .header)
+  pub room-lat : shape (g .header) .rows * shape (g .header) .cols ≤ length (g .lat)
+  pub room-lon : shape (g .header) .rows * shape (g .header) .cols ≤ length (g .lon)
 
-pub laid : (h : Header) (lat lon : List ℤ) → layout h lat lon ≡ answered tt → Laid h lat lon
+pub laid : (g : Grid) → layout g ≡ answered tt → Laid g
 unfolding layout
-laid h lat lon e =
-    let n = shape h .rows * shape h .cols in
-    let s = not-refused (not (eqb (brokenRule h) 0)) _ _ _ e in
-    let t = not-refused (ltb (length lat) n || ltb (length lon) n) _ _ _ (s .1) in
-    let l = neither (ltb (length lat) n) (ltb (length lon) n) (t .0) in
-    let z = eqb-true (brokenRule h) 0 (not-false (eqb (brokenRule h) 0) (s .0)) in
-    record { unbroken = z; header = rules-hold h z; room-lat = ltb-false _ _ (l .0); room-lon = ltb-false _ _ (l .1) }
+laid g e =
+    let n = shape (g .header) .rows * shape (g .header) .cols in
+    let s = not-refused (not (eqb (brokenRule (g .header)) 0)) _ _ _ e in
+    let t = not-refused (ltb (length (g .lat)) n || ltb (length (g .lon)) n) _ _ _ (s .1) in
+    let l = neither (ltb (length (g .lat)) n) (ltb (length (g .lon)) n) (t .0) in
+    let z = eqb-true (brokenRule (g .header)) 0 (not-false (eqb (brokenRule (g .header)) 0) (s .0)) in
+    record { unbroken = z; header = rules-hold (g .header) z; room-lat = ltb-false _ _ (l .0); room-lon = ltb-false _ _ (l .1) }
 
-pub record Good (h : Header) (lat lon : List ℤ) : Type 0 where
-  pub laid-out : layout h lat lon ≡ answered tt
-  pub unbroken : brokenRule h ≡ 0
-  pub header : RulesHold h
-  pub of-lat : Sound (shape h) lat
-  pub of-lon : Sound (shape h) lon
+pub record Good (g : Grid) : Type 0 where
+  pub laid-out : layout g ≡ answered tt
+  pub unbroken : brokenRule (g .header) ≡ 0
+  pub header : RulesHold (g .header)
+  pub of-lat : Sound (shape (g .header)) (g .lat)
+  pub of-lon : Sound (shape (g .header)) (g .lon)
 
 nodes-sound : (s : Shape) (lat lon : List ℤ) → nodesVerdict s lat lon ≡ answered tt → Sound s lat × Sound s lon
 unfolding nodesVerdict steepness steepAt
@@ -113,29 +113,29 @@ nodes-sound s lat lon e =
     λ j l. neither _ _ (first-none (steepAt s lat lon) n (u .0) j l) in
     (sound s lat (r .0) (λ j h. q j h .0), sound s lon (r .1) (λ j h. q j h .1))
 
-pub good : (h : Header) (lat lon : List ℤ) → Passes h lat lon → Good h lat lon
+pub good : (g : Grid) → Passes g → Good g
 unfolding verdict
-good h lat lon e =
-    let s = both-answered (layout h lat lon) (nodesVerdict (shape h) lat lon) e in
-    let a : layout h lat lon ≡ answered tt = s .0 .1 in
-    let l = laid h lat lon a in
-    let c = nodes-sound (shape h) lat lon (s .1) in
+good g e =
+    let s = both-answered (layout g) (nodesVerdict (shape (g .header)) (g .lat) (g .lon)) e in
+    let a : layout g ≡ answered tt = s .0 .1 in
+    let l = laid g a in
+    let c = nodes-sound (shape (g .header)) (g .lat) (g .lon) (s .1) in
     record { laid-out = a; unbroken = l .unbroken; header = l .header; of-lat = c .0; of-lon = c .1 }
 
 -- ---- steepness, the last of the checks
 
-module _ (h : Header) (lat lon : List ℤ) where
+module _ (g : Grid) where
   -- where the others pass, it decides
-  pub steepness-left : brokenRule h ≡ 0 → nodeCount h ≤ length lat → nodeCount h ≤ length lon
-      → ((k : ℕ) → k < nodeCount h → outOfRange lat lon k ≡ false) → verdict h lat lon ≡ steepness (shape h) lat lon
+  pub steepness-left : brokenRule (g .header) ≡ 0 → nodeCount (g .header) ≤ length (g .lat) → nodeCount (g .header) ≤ length (g .lon)
+      → ((k : ℕ) → k < nodeCount (g .header) → outOfRange (g .lat) (g .lon) k ≡ false) → verdict g ≡ steepness (shape (g .header)) (g .lat) (g .lon)
   unfolding nodesVerdict
   steepness-left e a b ranged =
-      let count = nodeCount h in
-      let none : count ≡ first (outOfRange lat lon) count = first-is (outOfRange lat lon) count count (omega arith) ranged (λ l. absurd (omega arith)) in
-      sym (layout-passes h lat lon (room h lat lon e a b)) ∙ rw (← none, le-ltb count count (omega arith))
+      let count = nodeCount (g .header) in
+      let none : count ≡ first (outOfRange (g .lat) (g .lon)) count = first-is (outOfRange (g .lat) (g .lon)) count count (omega arith) ranged (λ l. absurd (omega arith)) in
+      sym (layout-passes g (room g e a b)) ∙ rw (← none, le-ltb count count (omega arith))
 
-  pub passes-steepness : Passes h lat lon → steepness (shape h) lat lon ≡ answered tt
+  pub passes-steepness : Passes g → steepness (shape (g .header)) (g .lat) (g .lon) ≡ answered tt
   unfolding verdict nodesVerdict
   passes-steepness p =
-      let far = first (outOfRange lat lon) (nodeCount h) in
-      not-refused (ltb far (nodeCount h)) 3 far _ (both-answered (layout h lat lon) (nodesVerdict (shape h) lat lon) p .1) .1
+      let far = first (outOfRange (g .lat) (g .lon)) (nodeCount (g .header)) in
+      not-refused (ltb far (nodeCount (g .header))) 3 far _ (both-answered (layout g) (nodesVerdict (shape (g .header)) (g .lat) (g .lon)) p .1) .1

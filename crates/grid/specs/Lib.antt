@@ -1,4 +1,5 @@
 pub mod Rules
+pub mod Grid
 pub mod Nodes
 pub mod Check
 pub mod Needs

@@ -15,7 +15,7 @@ use Rattle.grid.specs.Rules.{brokenRule, nodeCount}
 use Rattle.grid.specs.Nodes.{beyondRange}
 use Rattle.grid.specs.declared.Header.{Header}
 use Rattle.grid.proofs.RuleLaws.{rules-hold, extent}
-use Rattle.grid_reader.specs.Scan.{form, formAt, start, headerNumberEnd, headerEnd, nodeEnd, countEnd, closed, leads, grown, push, numberStep, literalStep, step, taken, fed}
+use Rattle.grid_reader.specs.Scan.{form, colsAt, latAt, lonAt, countAt, wholeAt, formAt, start, headerNumberEnd, headerEnd, nodeEnd, countEnd, closed, leads, grown, push, numberStep, literalStep, step, taken, fed}
 use Rattle.grid_reader.specs.Needs.{Stored}
 use Rattle.grid_reader.specs.declared.Scan.{Scan}
 use Rattle.grid_reader.specs.declared.Step.{Step}
@@ -62,25 +62,25 @@ module _ (room : ℕ) where
     count-counted h = by-test (Stepped room) (eqb (s .number .magnitude) (s .count)) (λ _. kept _ (λ _. h) refl) (λ _. tt)
 
     -- a number of the header ends before place 62
-    header-number-counted : (x : ℤ) → formAt (s .at) ≡ 35 → s .at < 61 → Stepped room (headerNumberEnd s x)
+    header-number-counted : (x : ℤ) → formAt (s .at) ≡ 35 → s .at < colsAt → Stepped room (headerNumberEnd s x)
     unfolding headerNumberEnd form
     header-number-counted x p l = kept _ (λ h. absurd (let e : 60 ≡ s .at = omega arith in omega (arith, ap formAt e ∙ p))) refl
 
     closed-counted : (x : ℤ) → formAt (s .at) ≡ 35 → Stepped room (closed room s x)
     unfolding closed
     closed-counted x p =
-        by-test (Stepped room) (ltb (s .at) 61) (λ l. header-number-counted x p (ltb-true (s .at) 61 l))
-        (λ l. by-test (Stepped room) (eqb (s .at) 61) (λ _. header-counted _)
-        (λ e. let h : 62 ≤ s .at = beyond (ltb-false (s .at) 61 l) (eqb-false (s .at) 61 e) in
-        by-test (Stepped room) (eqb (s .at) 68) (λ _. kept _ (λ _. h) refl)
-        (λ _. by-test (Stepped room) (eqb (s .at) 70) (λ _. node-counted x h) (λ _. count-counted h))))
+        by-test (Stepped room) (ltb (s .at) colsAt) (λ l. header-number-counted x p (ltb-true (s .at) colsAt l))
+        (λ l. by-test (Stepped room) (eqb (s .at) colsAt) (λ _. header-counted _)
+        (λ e. let h : 62 ≤ s .at = beyond (ltb-false (s .at) colsAt l) (eqb-false (s .at) colsAt e) in
+        by-test (Stepped room) (eqb (s .at) latAt) (λ _. kept _ (λ _. h) refl)
+        (λ _. by-test (Stepped room) (eqb (s .at) lonAt) (λ _. node-counted x h) (λ _. count-counted h))))
       where
-        beyond : {n : ℕ} → 61 ≤ n → (n ≡ 61 → ⊥) → 62 ≤ n
+        beyond : {n : ℕ} → colsAt ≤ n → (n ≡ colsAt → ⊥) → 62 ≤ n
         beyond h n = omega arith
 
     push-counted : (x : Pushed) → Stepped room (push s x)
     unfolding grown
-    push-counted (Pushed.Grown n) = by-test (Stepped room) (eqb (s .at) 76 && not (leads n (s .count))) (λ _. tt) (λ _. kept _ (λ h. h) refl)
+    push-counted (Pushed.Grown n) = by-test (Stepped room) (eqb (s .at) countAt && not (leads n (s .count))) (λ _. tt) (λ _. kept _ (λ h. h) refl)
     push-counted Pushed.Refused = tt
 
     number-counted : (b : ℕ) → formAt (s .at) ≡ 35 → Stepped room (numberStep room s b)
@@ -93,8 +93,8 @@ module _ (room : ℕ) where
     literal-counted : (b : ℕ) → (formAt (s .at) ≡ 35 → ⊥) → Stepped room (literalStep s b)
     unfolding literalStep form
     literal-counted b p =
-        let n : s .at ≡ 61 → ⊥ = λ e. p (ap formAt e) in
-        by-test (Stepped room) (ltb (s .at) 78 && eqb b (formAt (s .at)))
+        let n : s .at ≡ colsAt → ⊥ = λ e. p (ap formAt e) in
+        by-test (Stepped room) (ltb (s .at) wholeAt && eqb b (formAt (s .at)))
         (λ _. kept _ (λ h. omega arith) refl)
         (λ _. tt)
 

@@ -19,13 +19,15 @@ use Rattle.laws.specs.Over.{over, over-set, over-take}
 use Rattle.decimal.specs.Pushing.{none}
 use Rattle.decimal.specs.declared.Number.{Number}
 use Rattle.decimal.proofs.Grown.{good-none}
+use Rattle.lines.specs.Text.{newline}
+use Rattle.grid.specs.Grid.{header, Grid, gridOf}
 use Rattle.grid.specs.Rules.{brokenRule, shape, nodeCount}
 use Rattle.grid.specs.Nodes.{beyondRange}
 use Rattle.grid.specs.Check.{layout, steepness}
 use Rattle.grid.specs.declared.Header.{Header}
 use Rattle.grid.proofs.RuleLaws.{rules-hold, extent}
-use Rattle.grid_reader.specs.Reading.{Grid, fixed, word, field, newline, comma, nothing, header, ending, nodes, reading}
-use Rattle.grid_reader.specs.Scan.{form, lineEnd, linesBefore, scan, start, filled, headerNumberEnd, headerEnd, nodeEnd, closed, literalStep, step, fed, finished}
+use Rattle.grid_reader.specs.Reading.{fixed, word, field, comma, nothing, ending, nodes, reading}
+use Rattle.grid_reader.specs.Scan.{form, colsAt, nodeLineAt, lonAt, endLineAt, countAt, wholeAt, lineEnd, linesBefore, scan, start, filled, headerNumberEnd, headerEnd, nodeEnd, closed, literalStep, step, fed, finished}
 use Rattle.grid_reader.specs.declared.Step.{Step}
 use Rattle.grid_reader.specs.declared.Taken.{Taken}
 use Rattle.grid_reader.proofs.Onward.{readFrom, onward, one-byte}
@@ -40,7 +42,7 @@ module _ (room : ℕ) (h : Header) (c k : ℕ) (x : ℤ) (lat lon : List ℤ) wh
   at a t = readFrom room (scan a none h c k x) lat lon t
 
   fields : (a l stop : ℕ) (key : List ℕ) (next : ℤ → Step) → isPiece a l key ≡ true → Mark (a + length key) stop l
-      → ((n : Number) (v : ℤ) → closed room (scan (a + length key) n h c k x) v ≡ next v) → (a + length key ≡ 76 → ⊥)
+      → ((n : Number) (v : ℤ) → closed room (scan (a + length key) n h c k x) v ≡ next v) → (a + length key ≡ countAt → ⊥)
       → (t : List ℕ) → at a t ≡ field (suc l + k) stop key t (λ v u. onward room k lat lon (next v) u)
   fields a l stop key next e m f g t =
       literals room h c k x lat lon key a l e t
@@ -61,22 +63,22 @@ module _ (room : ℕ) (h : Header) (unbroken : brokenRule h ≡ 0) (z w : List �
   few = node-count h unbroken .1
 
   follows : (k : ℕ) (x : ℤ) (xs ys : List ℤ) → k + 1 ≡ nodeCount h → NodesSoFar (nodeCount h) xs ys → (t : List ℕ)
-      → readFrom room (scan 78 none h (nodeCount h) k x) (over xs z) (over ys w) t
-      ≡ nothing (10 + nodeCount h) t (andThen (steepness (shape h) xs ys) (answered (record { header = h; lat = xs; lon = ys })))
+      → readFrom room (scan wholeAt none h (nodeCount h) k x) (over xs z) (over ys w) t
+      ≡ nothing (10 + nodeCount h) t (andThen (steepness (shape h) xs ys) (answered (gridOf h xs ys)))
   unfolding fed step literalStep form linesBefore lineEnd
   follows k x xs ys e r [] = rw (over-take xs z (nodeCount h) (r .lats), over-take ys w (nodeCount h) (r .lons), left-to-judge h xs ys unbroken r)
   follows k x xs ys e r (b ∷ t) =
-      one-byte room (scan 78 none h (nodeCount h) k x) (over xs z) (over ys w) b t ∙ ap (refused 1) (omega arith)
+      one-byte room (scan wholeAt none h (nodeCount h) k x) (over xs z) (over ys w) b t ∙ ap (refused 1) (omega arith)
 
   ends : (k : ℕ) (x : ℤ) (xs ys : List ℤ) → k + 1 ≡ nodeCount h → NodesSoFar (nodeCount h) xs ys → (t : List ℕ)
-      → readFrom room (scan 72 none h (nodeCount h) k x) (over xs z) (over ys w) t ≡ ending h xs ys t
+      → readFrom room (scan endLineAt none h (nodeCount h) k x) (over xs z) (over ys w) t ≡ ending h xs ys t
   unfolding ending form linesBefore lineEnd
   ends k x xs ys e r t =
-      literals room h (nodeCount h) k x (over xs z) (over ys w) (bytes "end=") 72 9 refl t
+      literals room h (nodeCount h) k x (over xs z) (over ys w) (bytes "end=") endLineAt 9 refl t
       ∙ ap (fixed (10 + k) (bytes "end=") t) (λ i u. counts room h (nodeCount h) k x (over xs z) (over ys w) (omega (arith, few)) (node-count h unbroken .0) none good-none (inl refl) u i)
       ∙ ap (field (10 + k) newline (bytes "end=") t) (λ i v u. refuseIf (not (eqZ v (pos (nodeCount h)))) 1 (10 + k) (follows k x xs ys e r u i))
       ∙ ap (λ (line : ℕ). field line newline (bytes "end=") t (λ v u. refuseIf (not (eqZ v (pos (nodeCount h)))) 1 line
-      (nothing (10 + nodeCount h) u (andThen (steepness (shape h) xs ys) (answered (record { header = h; lat = xs; lon = ys })))))) line-is
+      (nothing (10 + nodeCount h) u (andThen (steepness (shape h) xs ys) (answered (gridOf h xs ys)))))) line-is
     where
       line-is : 10 + k ≡ 9 + nodeCount h
       line-is = omega arith
@@ -85,29 +87,29 @@ module _ (room : ℕ) (h : Header) (unbroken : brokenRule h ≡ 0) (z w : List �
   node-line : (left k : ℕ) (x : ℤ) (xs ys : List ℤ)
       → ((v y : ℤ) (t : List ℕ) → (beyondRange v || beyondRange y) ≡ false
       → onward room k (over xs z) (over ys w)
-      (cond (ltb (k + 1) (nodeCount h)) (Step.Node (scan 63 none h (nodeCount h) (k + 1) v) v y) (Step.Node (scan 72 none h (nodeCount h) k v) v y)) t
+      (cond (ltb (k + 1) (nodeCount h)) (Step.Node (scan nodeLineAt none h (nodeCount h) (k + 1) v) v y) (Step.Node (scan endLineAt none h (nodeCount h) k v) v y)) t
       ≡ nodes h left (suc k) (xs ++ (v ∷ [])) (ys ++ (y ∷ [])) t)
-      → (t : List ℕ) → readFrom room (scan 63 none h (nodeCount h) k x) (over xs z) (over ys w) t ≡ nodes h (suc left) k xs ys t
+      → (t : List ℕ) → readFrom room (scan nodeLineAt none h (nodeCount h) k x) (over xs z) (over ys w) t ≡ nodes h (suc left) k xs ys t
   unfolding nodes closed nodeEnd form linesBefore lineEnd
   node-line left k x xs ys rest t =
-      fields room h (nodeCount h) k x (over xs z) (over ys w) 63 8 comma (bytes "node=") (λ v. Step.On (scan 70 none h (nodeCount h) k v)) refl
+      fields room h (nodeCount h) k x (over xs z) (over ys w) nodeLineAt 8 comma (bytes "node=") (λ v. Step.On (scan lonAt none h (nodeCount h) k v)) refl
       (record { number = refl; stops = refl; inside = omega arith; lines = refl }) (λ m v. refl) (omega arith) t
       ∙ ap (field (9 + k) comma (bytes "node=") t) (λ i v u.
-      (numbers room h (nodeCount h) k v (over xs z) (over ys w) {a = 70} {stop = newline} {l = 8} (record { number = refl; stops = refl; inside = omega arith; lines = refl })
-      (nodeEnd (scan 70 none h (nodeCount h) k v)) (λ m y. refl) (omega arith) none good-none u
+      (numbers room h (nodeCount h) k v (over xs z) (over ys w) {a = lonAt} {stop = newline} {l = 8} (record { number = refl; stops = refl; inside = omega arith; lines = refl })
+      (nodeEnd (scan lonAt none h (nodeCount h) k v)) (λ m y. refl) (omega arith) none good-none u
       ∙ ap (word (9 + k) newline [] u) (λ j y r. judged v y r (beyondRange v || beyondRange y) refl j)) i)
     where
       judged : (v y : ℤ) (t : List ℕ) (d : Bool) → (beyondRange v || beyondRange y) ≡ d
           → onward room k (over xs z) (over ys w)
           (cond d (Step.Refused (Refusal.Range k))
-          (cond (ltb (k + 1) (nodeCount h)) (Step.Node (scan 63 none h (nodeCount h) (k + 1) v) v y) (Step.Node (scan 72 none h (nodeCount h) k v) v y))) t
+          (cond (ltb (k + 1) (nodeCount h)) (Step.Node (scan nodeLineAt none h (nodeCount h) (k + 1) v) v y) (Step.Node (scan endLineAt none h (nodeCount h) k v) v y))) t
           ≡ refuseIf d 3 k (nodes h left (suc k) (xs ++ (v ∷ [])) (ys ++ (y ∷ [])) t)
       judged v y t true f = refl
       judged v y t false f = rest v y t f
 
   module _ (roomy-z : 2048 ≤ length z) (roomy-w : 2048 ≤ length w) where
     node-lines : (left k : ℕ) (x : ℤ) (xs ys : List ℤ) → k + suc left ≡ nodeCount h → NodesSoFar k xs ys → (t : List ℕ)
-        → readFrom room (scan 63 none h (nodeCount h) k x) (over xs z) (over ys w) t ≡ nodes h (suc left) k xs ys t
+        → readFrom room (scan nodeLineAt none h (nodeCount h) k x) (over xs z) (over ys w) t ≡ nodes h (suc left) k xs ys t
     unfolding nodes
     node-lines zero k x xs ys e r t =
         node-line zero k x xs ys
@@ -118,7 +120,7 @@ module _ (room : ℕ) (h : Header) (unbroken : brokenRule h ≡ 0) (z w : List �
         node-line (suc left) k x xs ys
         (λ v y t f.
         rw (lt-ltb (k + 1) (nodeCount h) (omega arith), over-set xs z v k (r .lats) (omega (arith, few)), over-set ys w y k (r .lons) (omega (arith, few)))
-        (ap (λ (j : ℕ). readFrom room (scan 63 none h (nodeCount h) j v) (over (xs ++ (v ∷ [])) z) (over (ys ++ (y ∷ [])) w) t) (add-one k)
+        (ap (λ (j : ℕ). readFrom room (scan nodeLineAt none h (nodeCount h) j v) (over (xs ++ (v ∷ [])) z) (over (ys ++ (y ∷ [])) w) t) (add-one k)
         ∙ node-lines left (suc k) v (xs ++ (v ∷ [])) (ys ++ (y ∷ [])) (omega arith) (one-node r v y (add-one k) f) t)) t
 
 -- ---- the header
@@ -140,43 +142,43 @@ module _ (lat lon lats lons : List ℤ) (roomy-z : 2048 ≤ length lats) (roomy-
   from a h t = readFrom room (scan a none h 0 0 (pos 0)) lats lons t
 
   -- the header's numbers are bounded, and its first node line follows
-  first-node : (h : Header) → brokenRule h ≡ 0 → (t : List ℕ) → readFrom room (scan 63 none h (nodeCount h) 0 (pos 0)) lats lons t ≡ nodes h (nodeCount h) 0 [] [] t
+  first-node : (h : Header) → brokenRule h ≡ 0 → (t : List ℕ) → readFrom room (scan nodeLineAt none h (nodeCount h) 0 (pos 0)) lats lons t ≡ nodes h (nodeCount h) 0 [] [] t
   unfolding over
   first-node h e t = go (nodeCount h) refl
     where
-      go : (n : ℕ) → nodeCount h ≡ n → readFrom room (scan 63 none h (nodeCount h) 0 (pos 0)) lats lons t ≡ nodes h (nodeCount h) 0 [] [] t
+      go : (n : ℕ) → nodeCount h ≡ n → readFrom room (scan nodeLineAt none h (nodeCount h) 0 (pos 0)) lats lons t ≡ nodes h (nodeCount h) 0 [] [] t
       go zero q = absurd (omega (arith, node-count h e))
       go (suc left) q =
-          subst (λ (j : ℕ). readFrom room (scan 63 none h (nodeCount h) 0 (pos 0)) lats lons t ≡ nodes h j 0 [] [] t) (sym q)
+          subst (λ (j : ℕ). readFrom room (scan nodeLineAt none h (nodeCount h) 0 (pos 0)) lats lons t ≡ nodes h j 0 [] [] t) (sym q)
           (node-lines room h e lats lons roomy-z roomy-w left 0 (pos 0) [] [] (omega (arith, q)) no-node t)
 
   -- the eight lines are whole
-  judged : (h : Header) (t : List ℕ) → onward room 0 lats lons (headerEnd room h) t ≡ andThen (layout h lat lon) (nodes h (nodeCount h) 0 [] [] t)
+  judged : (h : Header) (t : List ℕ) → onward room 0 lats lons (headerEnd room h) t ≡ andThen (layout (gridOf h lat lon)) (nodes h (nodeCount h) 0 [] [] t)
   unfolding headerEnd layout
   judged h t = rules (eqb (brokenRule h) 0) refl
     where
       roomy : brokenRule h ≡ 0 → (d : Bool)
-          → onward room 0 lats lons (cond d (Step.Refused (Refusal.NodeRoom (nodeCount h))) (Step.On (scan 63 none h (nodeCount h) 0 (pos 0)))) t
+          → onward room 0 lats lons (cond d (Step.Refused (Refusal.NodeRoom (nodeCount h))) (Step.On (scan nodeLineAt none h (nodeCount h) 0 (pos 0)))) t
           ≡ andThen (refuseIf {A = Unit {0}} d 5 (nodeCount h) (answered tt)) (nodes h (nodeCount h) 0 [] [] t)
       roomy e true = refl
       roomy e false = first-node h e t
 
-      rules : (d : Bool) → eqb (brokenRule h) 0 ≡ d → onward room 0 lats lons (headerEnd room h) t ≡ andThen (layout h lat lon) (nodes h (nodeCount h) 0 [] [] t)
+      rules : (d : Bool) → eqb (brokenRule h) 0 ≡ d → onward room 0 lats lons (headerEnd room h) t ≡ andThen (layout (gridOf h lat lon)) (nodes h (nodeCount h) 0 [] [] t)
       rules false e = rw e
       rules true e =
           rw (e, shorter (length lat) (length lon) (nodeCount h))
           (roomy (eqb-true (brokenRule h) 0 e) (ltb (length lat) (nodeCount h) || ltb (length lon) (nodeCount h)))
 
-  number-line : (a l : ℕ) (key : List ℕ) (h : Header) → isPiece a l key ≡ true → Mark (a + length key) newline l → a + length key < 61
+  number-line : (a l : ℕ) (key : List ℕ) (h : Header) → isPiece a l key ≡ true → Mark (a + length key) newline l → a + length key < colsAt
       → (t : List ℕ) → from a h t ≡ field (suc l + 0) newline key t (λ v u. from (a + length key + 2) (filled (a + length key) v h) u)
   unfolding closed headerNumberEnd
   number-line a l key h e m i t =
       fields room h 0 0 (pos 0) lats lons a l newline key (λ v. Step.On (scan (a + length key + 2) none (filled (a + length key) v h) 0 0 (pos 0))) e m
-      (λ n v. rw (lt-ltb (a + length key) 61 i)) (omega arith) t
+      (λ n v. rw (lt-ltb (a + length key) colsAt i)) (omega arith) t
 
   -- what follows the south, the west, .. line
   abbrev rest8 : (south west dlat dlon rows cols : ℤ) → List ℕ → Outcome Grid
-  rest8 s w a o r c t = let h = header s w a o r c in andThen (layout h lat lon) (nodes h (nodeCount h) 0 [] [] t)
+  rest8 s w a o r c t = let h = header s w a o r c in andThen (layout (gridOf h lat lon)) (nodes h (nodeCount h) 0 [] [] t)
 
   abbrev rest7 : (south west dlat dlon rows : ℤ) → List ℕ → Outcome Grid
   rest7 s w a o r t = field 8 newline (bytes "cols=") t (rest8 s w a o r)

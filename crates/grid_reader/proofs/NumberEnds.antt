@@ -20,7 +20,7 @@ use Rattle.grid.specs.Nodes.{beyondRange}
 use Rattle.grid.specs.declared.Header.{Header}
 use Rattle.lines.specs.Text.{pairLine}
 use Rattle.grid_text.specs.Text.{headerText, nodeLine, nodeLines}
-use Rattle.grid_reader.specs.Scan.{form, formAt, lineEnd, linesBefore, lineAt, scan, filled, headerNumberEnd, headerEnd, nodeEnd, countEnd, closed}
+use Rattle.grid_reader.specs.Scan.{form, southAt, westAt, dlatAt, dlonAt, rowsAt, colsAt, nodeLineAt, latAt, lonAt, endLineAt, countAt, wholeAt, formAt, lineEnd, linesBefore, lineAt, scan, filled, headerNumberEnd, headerEnd, nodeEnd, countEnd, closed}
 use Rattle.grid_reader.specs.SoFar.{numberAt, filledForm, linesSoFar, soFar}
 use Rattle.grid_reader.specs.declared.Step.{Step}
 use Rattle.grid_reader.proofs.LineByLine.{node-count}
@@ -48,11 +48,11 @@ four a b c d e = simp append-assoc
 
 -- ---- the places behind the numbers
 
-in-node : (j : ℕ) {k c : ℕ} → 63 ≤ suc j → suc j < 72 → eqb (formAt j) 35 ≡ false → (k < c) × (c ≤ 2048) → Placed (suc j) k c
+in-node : (j : ℕ) {k c : ℕ} → nodeLineAt ≤ suc j → suc j < endLineAt → eqb (formAt j) 35 ≡ false → (k < c) × (c ≤ 2048) → Placed (suc j) k c
 in-node j l m e f =
     record { inside = omega arith; behind = behind-is j refl e; early = λ n. absurd (omega arith); counted = λ _. f; last = λ n. absurd (omega arith) }
 
-in-end : (j : ℕ) {k c : ℕ} → 72 ≤ suc j → suc j ≤ 78 → eqb (formAt j) 35 ≡ false → (k < c) × (c ≤ 2048) → k + 1 ≡ c → Placed (suc j) k c
+in-end : (j : ℕ) {k c : ℕ} → endLineAt ≤ suc j → suc j ≤ wholeAt → eqb (formAt j) 35 ≡ false → (k < c) × (c ≤ 2048) → k + 1 ≡ c → Placed (suc j) k c
 in-end j l m e f g = record { inside = m; behind = behind-is j refl e; early = λ n. absurd (omega arith); counted = λ _. f; last = λ _. g }
 
 module _ (room : ℕ) (n : Number) (h : Header) (c k : ℕ) (x : ℤ) (lat lon : List ℤ) (w : List ℕ) (begun : n .begun ≡ true) where
@@ -87,12 +87,12 @@ module _ (room : ℕ) (n : Number) (h : Header) (c k : ℕ) (x : ℤ) (lat lon :
 
   -- ---- the header
 
-  header-ends : (a : ℕ) → a < 61 → formAt (a + 1) ≡ 10 → linesBefore (a + 2) ≡ linesBefore a + 1
+  header-ends : (a : ℕ) → a < colsAt → formAt (a + 1) ≡ 10 → linesBefore (a + 2) ≡ linesBefore a + 1
       → filledForm (numberAt (filled a (valueOf n) h)) 0 (a + 2) ≡ filledForm (numberAt h) 0 a ++ spell (valueOf n) ++ (10 ∷ [])
       → Ends a
   unfolding closed headerNumberEnd linesSoFar
   header-ends a l e f g r =
-      rw (lt-ltb a 61 l, e)
+      rw (lt-ltb a colsAt l, e)
       (turned a r 10 (a + 2) (filled a (valueOf n) h) c k x lat lon
       (record {
         inside = omega arith;
@@ -101,60 +101,60 @@ module _ (room : ℕ) (n : Number) (h : Header) (c k : ℕ) (x : ℤ) (lat lon :
         counted = λ m. absurd (omega arith);
         last = λ m. absurd (omega arith);
       })
-      refl refl (rw (lt-ltb a 63 (omega arith), lt-ltb (a + 2) 63 (omega arith)) g) (omega (arith, f)))
+      refl refl (rw (lt-ltb a nodeLineAt (omega arith), lt-ltb (a + 2) nodeLineAt (omega arith)) g) (omega (arith, f)))
 
-  south-ends : Ends 26
+  south-ends : Ends southAt
   unfolding filledForm form filled linesBefore lineEnd
-  south-ends = header-ends 26 (omega arith) refl refl refl
+  south-ends = header-ends southAt (omega arith) refl refl refl
 
-  west-ends : Ends 33
+  west-ends : Ends westAt
   unfolding filledForm form filled linesBefore lineEnd
-  west-ends = header-ends 33 (omega arith) refl refl refl
+  west-ends = header-ends westAt (omega arith) refl refl refl
 
-  dlat-ends : Ends 40
+  dlat-ends : Ends dlatAt
   unfolding filledForm form filled linesBefore lineEnd
-  dlat-ends = header-ends 40 (omega arith) refl refl refl
+  dlat-ends = header-ends dlatAt (omega arith) refl refl refl
 
-  dlon-ends : Ends 47
+  dlon-ends : Ends dlonAt
   unfolding filledForm form filled linesBefore lineEnd
-  dlon-ends = header-ends 47 (omega arith) refl refl refl
+  dlon-ends = header-ends dlonAt (omega arith) refl refl refl
 
-  rows-ends : Ends 54
+  rows-ends : Ends rowsAt
   unfolding filledForm form filled linesBefore lineEnd
-  rows-ends = header-ends 54 (omega arith) refl refl refl
+  rows-ends = header-ends rowsAt (omega arith) refl refl refl
 
   -- the header is whole
-  cols-ends : Ends 61
+  cols-ends : Ends colsAt
   unfolding closed headerEnd filled form linesBefore lineEnd linesSoFar filledForm nodeLines
   cols-ends r =
       by-test (After 10) (eqb (brokenRule whole) 0)
       (λ e. by-test (After 10) (ltb room (nodeCount whole)) (λ _. tt)
-      (λ _. turned 61 r 10 63 whole (nodeCount whole) 0 (pos 0) lat lon
+      (λ _. turned colsAt r 10 nodeLineAt whole (nodeCount whole) 0 (pos 0) lat lon
       (in-node 62 (omega arith) (omega arith) refl (node-count whole (eqb-true (brokenRule whole) 0 e)))
       refl refl (append-nil (headerText whole ++ []) ∙ append-nil (headerText whole) ∙ sym (header-whole whole)) (omega (arith, r .placed .early (omega arith)))))
       (λ _. tt)
     where
       whole : Header
-      whole = filled 61 (valueOf n) h
+      whole = filled colsAt (valueOf n) h
 
   -- ---- a node
 
-  lat-ends : Ends 68
+  lat-ends : Ends latAt
   unfolding closed form linesBefore lineEnd linesSoFar filledForm
   lat-ends r =
-      turned 68 r 44 70 h c k (valueOf n) lat lon (in-node 69 (omega arith) (omega arith) refl (r .placed .counted (omega arith))) refl refl
-      (three (headerText h ++ nodeLines lat lon k) (filledForm (λ _. x) 63 5) (spell (valueOf n)) (44 ∷ [])) (omega arith)
+      turned latAt r 44 lonAt h c k (valueOf n) lat lon (in-node 69 (omega arith) (omega arith) refl (r .placed .counted (omega arith))) refl refl
+      (three (headerText h ++ nodeLines lat lon k) (filledForm (λ _. x) nodeLineAt 5) (spell (valueOf n)) (44 ∷ [])) (omega arith)
 
-  lon-ends : Ends 70
+  lon-ends : Ends lonAt
   unfolding closed nodeEnd form linesBefore lineEnd linesSoFar filledForm nodeLine pairLine
   lon-ends r =
       by-test (After 10) (beyondRange x || beyondRange (valueOf n)) (λ _. tt)
       (λ _. by-test (After 10) (ltb (k + 1) c)
-      (λ l. turned 70 r 10 63 h c (k + 1) x lats lons (in-node 62 (omega arith) (omega arith) refl (omega (arith, ltb-true (k + 1) c l), few .1))
+      (λ l. turned lonAt r 10 nodeLineAt h c (k + 1) x lats lons (in-node 62 (omega arith) (omega arith) refl (omega (arith, ltb-true (k + 1) c l), few .1))
       (length-set lat k x) (length-set lon k (valueOf n)) (append-nil (headerText h ++ nodeLines lats lons (k + 1)) ∙ same) (omega arith))
       (λ l.
       let q : k + 1 ≡ c = omega (arith, ltb-false (k + 1) c l, few .0) in
-      turned 70 r 10 72 h c k x lats lons (in-end 71 (omega arith) (omega arith) refl few q) (length-set lat k x) (length-set lon k (valueOf n))
+      turned lonAt r 10 endLineAt h c k x lats lons (in-end 71 (omega arith) (omega arith) refl few q) (length-set lat k x) (length-set lon k (valueOf n))
       (append-nil (headerText h ++ nodeLines lats lons c) ∙ ap (λ (j : ℕ). headerText h ++ nodeLines lats lons j) (sym q) ∙ same) (omega arith)))
     where
       lats : List ℤ
@@ -166,22 +166,22 @@ module _ (room : ℕ) (n : Number) (h : Header) (c k : ℕ) (x : ℤ) (lat lon :
       few : (k < c) × (c ≤ 2048)
       few = r .placed .counted (omega arith)
 
-      same : headerText h ++ nodeLines lats lons (k + 1) ≡ headerText h ++ nodeLines lat lon k ++ filledForm (λ _. x) 63 7 ++ spell (valueOf n) ++ (10 ∷ [])
+      same : headerText h ++ nodeLines lats lons (k + 1) ≡ headerText h ++ nodeLines lat lon k ++ filledForm (λ _. x) nodeLineAt 7 ++ spell (valueOf n) ++ (10 ∷ [])
       same =
           ap (λ (t : List ℕ). headerText h ++ t) (node-more lat lon x (valueOf n) k (omega (arith, few, r .lats)) (omega (arith, few, r .lons)))
-          ∙ four (headerText h) (nodeLines lat lon k) (filledForm (λ _. x) 63 7) (spell (valueOf n)) (10 ∷ [])
+          ∙ four (headerText h) (nodeLines lat lon k) (filledForm (λ _. x) nodeLineAt 7) (spell (valueOf n)) (10 ∷ [])
 
   -- ---- the number of nodes
 
-  count-ends : Ends 76
+  count-ends : Ends countAt
   unfolding closed countEnd form linesBefore lineEnd linesSoFar filledForm
   count-ends r =
       by-test (After 10) (eqb (n .magnitude) c)
-      (λ e. turned 76 r 10 78 h c k x lat lon
+      (λ e. turned countAt r 10 wholeAt h c k x lat lon
       (in-end 77 (omega arith) (omega arith) refl (r .placed .counted (omega arith)) (r .placed .last (omega arith)))
       refl refl
-      (three (headerText h ++ nodeLines lat lon c) (filledForm (λ _. pos c) 72 4) (spell (pos c)) (10 ∷ [])
-      ∙ ap (λ (v : ℤ). headerText h ++ nodeLines lat lon c ++ filledForm (λ _. pos c) 72 4 ++ spell v ++ (10 ∷ []))
+      (three (headerText h ++ nodeLines lat lon c) (filledForm (λ _. pos c) endLineAt 4) (spell (pos c)) (10 ∷ [])
+      ∙ ap (λ (v : ℤ). headerText h ++ nodeLines lat lon c ++ filledForm (λ _. pos c) endLineAt 4 ++ spell v ++ (10 ∷ []))
       (sym (value-small n (r .good .small) ∙ rw (r .plain refl, eqb-true (n .magnitude) c e))))
       (omega arith))
       (λ _. tt)

@@ -15,7 +15,7 @@ use Rattle.decimal.specs.declared.Number.{Number}
 use Rattle.decimal.specs.declared.Pushed.{Pushed}
 use Rattle.decimal.proofs.Grown.{Good, good-none, push-grown}
 use Rattle.grid_text.specs.Text.{headerText, nodeLines}
-use Rattle.grid_reader.specs.Scan.{form, formAt, lineEnd, linesBefore, lineAt, to, leads, grown, push, literalStep}
+use Rattle.grid_reader.specs.Scan.{form, colsAt, nodeLineAt, lonAt, endLineAt, countAt, wholeAt, formAt, lineEnd, linesBefore, lineAt, to, leads, grown, push, literalStep}
 use Rattle.grid_reader.specs.SoFar.{numberAt, filledForm, linesSoFar, soFar, newlines}
 use Rattle.grid_reader.specs.declared.Scan.{Scan}
 use Rattle.grid_reader.specs.declared.Step.{Step}
@@ -32,12 +32,12 @@ newlines-more (x ∷ w) b = rw (newlines-more w b) (omega arith)
 
 -- at place a, in the line of node k of c
 pub record Placed (a k c : ℕ) : Type 0 where
-  pub inside : a ≤ 78
+  pub inside : a ≤ wholeAt
   -- a number and the byte that ends it are left together
   pub behind : (i : ℕ) → suc i ≡ a → eqb (formAt i) 35 ≡ false
-  pub early : a < 63 → k ≡ 0
-  pub counted : 63 ≤ a → (k < c) × (c ≤ 2048)
-  pub last : 72 ≤ a → k + 1 ≡ c
+  pub early : a < nodeLineAt → k ≡ 0
+  pub counted : nodeLineAt ≤ a → (k < c) × (c ≤ 2048)
+  pub last : endLineAt ≤ a → k + 1 ≡ c
 
 pub behind-is : (j : ℕ) {a : ℕ} → suc j ≡ a → eqb (formAt j) 35 ≡ false → (i : ℕ) → suc i ≡ a → eqb (formAt i) 35 ≡ false
 behind-is j e f i q = let s : i ≡ j = omega arith in subst (λ (k : ℕ). eqb (formAt k) 35 ≡ false) (sym s) f
@@ -45,9 +45,9 @@ behind-is j e f i q = let s : i ≡ j = omega arith in subst (λ (k : ℕ). eqb 
 -- no fixed byte leads into the lines of the nodes or out of them
 no-seam : {a k c : ℕ} → Placed a k c → (a ≡ 62 → ⊥) × (a ≡ 71 → ⊥)
 unfolding form
-no-seam p = (λ e. not-both refl (p .behind 61 (sym e)), λ e. not-both refl (p .behind 70 (sym e)))
+no-seam p = (λ e. not-both refl (p .behind colsAt (sym e)), λ e. not-both refl (p .behind lonAt (sym e)))
 
-placed-next : (a k c : ℕ) → Placed a k c → eqb (formAt a) 35 ≡ false → a < 78 → Placed (a + 1) k c
+placed-next : (a k c : ℕ) → Placed a k c → eqb (formAt a) 35 ≡ false → a < wholeAt → Placed (a + 1) k c
 placed-next a k c p e l =
     let n = no-seam p in
     record {
@@ -64,7 +64,7 @@ pub record Read (s : Scan) (lat lon : List ℤ) (w : List ℕ) : Type 0 where
   pub good : Good (s .number)
   pub idle : eqb (formAt (s .at)) 35 ≡ false → s .number ≡ none
   -- the number of nodes has no minus
-  pub plain : s .at ≡ 76 → s .number .negative ≡ false
+  pub plain : s .at ≡ countAt → s .number .negative ≡ false
   pub placed : Placed (s .at) (s .node) (s .count)
   pub lats : 2048 ≤ length lat
   pub lons : 2048 ≤ length lon
@@ -82,7 +82,7 @@ module _ (s : Scan) (lat lon : List ℤ) where
 
   lines-more : Placed (s .at) (s .node) (s .count) → eqb (formAt (s .at)) 35 ≡ false → linesSoFar (to s (s .at + 1)) lat lon ≡ linesSoFar s lat lon ++ (formAt (s .at) ∷ [])
   unfolding linesSoFar
-  lines-more p e = go (ltb a 63) refl (ltb a 72) refl
+  lines-more p e = go (ltb a nodeLineAt) refl (ltb a endLineAt) refl
     where
       a : ℕ
       a = s .at
@@ -98,32 +98,32 @@ module _ (s : Scan) (lat lon : List ℤ) where
           ap (λ (u : List ℕ). t ++ u) (form-more (λ _. x) from a (a - from) (a + 1 - from) (omega arith) (omega arith) e)
           ∙ sym (append-assoc t (filledForm (λ _. x) from (a - from)) (formAt a ∷ []))
 
-      go : (x : Bool) → ltb a 63 ≡ x → (y : Bool) → ltb a 72 ≡ y → linesSoFar (to s (a + 1)) lat lon ≡ linesSoFar s lat lon ++ (formAt a ∷ [])
+      go : (x : Bool) → ltb a nodeLineAt ≡ x → (y : Bool) → ltb a endLineAt ≡ y → linesSoFar (to s (a + 1)) lat lon ≡ linesSoFar s lat lon ++ (formAt a ∷ [])
       go true f y g =
-          let l : a + 1 < 63 = omega (arith, ltb-true a 63 f, n .0) in
-          rw (f, lt-ltb (a + 1) 63 l) (form-more (numberAt (s .header)) 0 a a (a + 1) (omega arith) (omega arith) e)
+          let l : a + 1 < nodeLineAt = omega (arith, ltb-true a nodeLineAt f, n .0) in
+          rw (f, lt-ltb (a + 1) nodeLineAt l) (form-more (numberAt (s .header)) 0 a a (a + 1) (omega arith) (omega arith) e)
       go false f true g =
-          let l : a + 1 < 72 = omega (arith, ltb-true a 72 g, n .1) in
-          let m : 63 ≤ a = ltb-false a 63 f in
-          rw (f, g, le-ltb (a + 1) 63 (omega arith), lt-ltb (a + 1) 72 l) (behind (s .node) (s .lat) 63 m)
+          let l : a + 1 < endLineAt = omega (arith, ltb-true a endLineAt g, n .1) in
+          let m : nodeLineAt ≤ a = ltb-false a nodeLineAt f in
+          rw (f, g, le-ltb (a + 1) nodeLineAt (omega arith), lt-ltb (a + 1) endLineAt l) (behind (s .node) (s .lat) nodeLineAt m)
       go false f false g =
-          let m : 72 ≤ a = ltb-false a 72 g in
-          rw (f, g, le-ltb (a + 1) 63 (omega arith), le-ltb (a + 1) 72 (omega arith)) (behind (s .count) (pos (s .count)) 72 m)
+          let m : endLineAt ≤ a = ltb-false a endLineAt g in
+          rw (f, g, le-ltb (a + 1) nodeLineAt (omega arith), le-ltb (a + 1) endLineAt (omega arith)) (behind (s .count) (pos (s .count)) endLineAt m)
 
   module _ (w : List ℕ) (b : ℕ) (r : Read s lat lon w) where
     pub literal-kept : eqb (formAt (s .at)) 35 ≡ false → Kept (s .node) lat lon (w ++ (b ∷ [])) (literalStep s b)
     unfolding literalStep soFar linesBefore lineEnd
     literal-kept e =
-        by-test (Kept (s .node) lat lon (w ++ (b ∷ []))) (ltb (s .at) 78 && eqb b (formAt (s .at)))
+        by-test (Kept (s .node) lat lon (w ++ (b ∷ []))) (ltb (s .at) wholeAt && eqb b (formAt (s .at)))
         (λ q.
-        let c = both (ltb (s .at) 78) (eqb b (formAt (s .at))) q in
+        let c = both (ltb (s .at) wholeAt) (eqb b (formAt (s .at))) q in
         let f : b ≡ formAt (s .at) = eqb-true b (formAt (s .at)) (c .1) in
         let z : linesSoFar s lat lon ≡ w = sym (append-nil (linesSoFar s lat lon)) ∙ ap (λ (n : Number). linesSoFar s lat lon ++ part n) (sym (r .idle e)) ∙ r .same in
         record {
           good = good-none;
           idle = λ _. refl;
           plain = λ _. refl;
-          placed = placed-next (s .at) (s .node) (s .count) (r .placed) e (ltb-true (s .at) 78 (c .0));
+          placed = placed-next (s .at) (s .node) (s .count) (r .placed) e (ltb-true (s .at) wholeAt (c .0));
           lats = r .lats;
           lons = r .lons;
           same = append-nil (linesSoFar (to s (s .at + 1)) lat lon) ∙ lines-more (r .placed) e ∙ (λ i. z i ++ (sym f i ∷ []));
@@ -149,12 +149,12 @@ module _ (s : Scan) (lat lon : List ℤ) where
     unfolding grown soFar linesSoFar
     push-kept e (Pushed.Grown m) q =
         let g = push-grown (s .number) b m q in
-        by-test (Kept (s .node) lat lon (w ++ (b ∷ []))) (eqb (s .at) 76 && not (leads m (s .count))) (λ _. tt)
+        by-test (Kept (s .node) lat lon (w ++ (b ∷ []))) (eqb (s .at) countAt && not (leads m (s .count))) (λ _. tt)
         (λ f. record {
           good = g .0;
           idle = λ i. absurd (not-both (eq-eqb (formAt (s .at)) 35 e) i);
           plain = λ i.
-              leads-front (s .count) m (not-false (leads m (s .count)) (second-fails (eqb (s .at) 76) (not (leads m (s .count))) f (eq-eqb (s .at) 76 i))) .0;
+              leads-front (s .count) m (not-false (leads m (s .count)) (second-fails (eqb (s .at) countAt) (not (leads m (s .count))) f (eq-eqb (s .at) countAt i))) .0;
           placed = r .placed;
           lats = r .lats;
           lons = r .lons;

@@ -15,11 +15,12 @@ use Rattle.figures.specs.Refusal.{numberOf, placeOf}
 use Rattle.figures.specs.declared.Refusal.{Refusal}
 use Rattle.decimal.specs.Pushing.{pushed, valueOf}
 use Rattle.decimal.specs.declared.Pushed.{Pushed}
+use Rattle.grid.specs.Grid.{Grid}
 use Rattle.grid.specs.Rules.{brokenRule, nodeCount}
 use Rattle.grid.specs.Nodes.{beyondRange}
 use Rattle.grid.specs.declared.Header.{Header}
-use Rattle.grid_reader.specs.Reading.{Grid, reading}
-use Rattle.grid_reader.specs.Scan.{formAt, lineAt, start, filled, headerNumberEnd, headerEnd, nodeEnd, countEnd, closed, leads, grown, push, numberStep, literalStep, step, Fed, taken, fed, ended}
+use Rattle.grid_reader.specs.Reading.{reading}
+use Rattle.grid_reader.specs.Scan.{colsAt, latAt, lonAt, countAt, wholeAt, formAt, lineAt, start, filled, headerNumberEnd, headerEnd, nodeEnd, countEnd, closed, leads, grown, push, numberStep, literalStep, step, Fed, taken, fed, ended}
 use Rattle.grid_reader.specs.SoFar.{newlines}
 use Rattle.grid_reader.specs.declared.Scan.{Scan}
 use Rattle.grid_reader.specs.declared.Step.{Step}
@@ -67,15 +68,15 @@ module _ (room : ℕ) (s : Scan) where
   closed-own : (v : ℤ) → Own (closed room s v)
   unfolding closed headerNumberEnd countEnd
   closed-own v =
-      by-test Own (ltb (s .at) 61) (λ _. tt)
-      (λ _. by-test Own (eqb (s .at) 61) (λ _. header-own (filled 61 v (s .header)))
-      (λ _. by-test Own (eqb (s .at) 68) (λ _. tt)
-      (λ _. by-test Own (eqb (s .at) 70) (λ _. node-own v)
+      by-test Own (ltb (s .at) colsAt) (λ _. tt)
+      (λ _. by-test Own (eqb (s .at) colsAt) (λ _. header-own (filled colsAt v (s .header)))
+      (λ _. by-test Own (eqb (s .at) latAt) (λ _. tt)
+      (λ _. by-test Own (eqb (s .at) lonAt) (λ _. node-own v)
       (λ _. by-test Own (eqb (s .number .magnitude) (s .count)) (λ _. tt) (λ _ _. refl)))))
 
   push-own : (p : Pushed) → Own (push s p)
   unfolding grown
-  push-own (Pushed.Grown n) = by-test Own (eqb (s .at) 76 && not (leads n (s .count))) (λ _ _. refl) (λ _. tt)
+  push-own (Pushed.Grown n) = by-test Own (eqb (s .at) countAt && not (leads n (s .count))) (λ _ _. refl) (λ _. tt)
   push-own Pushed.Refused = λ _. refl
 
   step-own : (b : ℕ) → Own (step room s b)
@@ -85,7 +86,7 @@ module _ (room : ℕ) (s : Scan) where
       (λ _. by-test Own (eqb b (formAt (s .at + 1)))
       (λ _. by-test Own (s .number .begun) (λ _. closed-own (valueOf (s .number))) (λ _ _. refl))
       (λ _. push-own (pushed (s .number) b)))
-      (λ _. by-test Own (ltb (s .at) 78 && eqb b (formAt (s .at))) (λ _. tt) (λ _ _. refl))
+      (λ _. by-test Own (ltb (s .at) wholeAt && eqb b (formAt (s .at))) (λ _. tt) (λ _ _. refl))
 
 -- ---- a text: where its scanning was refused
 
@@ -153,10 +154,10 @@ module _ (text : List ℕ) (lat lon lats lons : List ℤ) (l : 2048 ≤ length l
       let g = goes-on room lats lons text s e in
       record {
         more = (g .0, subst OfForm (line-by-line (text ++ g .0) lat lon lats lons l m) (g .1));
-        in-line = own (eqb (s .at) 78) refl ∙ so-far room lats lons l m text s e .1;
+        in-line = own (eqb (s .at) wholeAt) refl ∙ so-far room lats lons l m text s e .1;
       }
     where
-      own : (t : Bool) → eqb (s .at) 78 ≡ t → line ≡ lineAt (s .at) (s .node)
+      own : (t : Bool) → eqb (s .at) wholeAt ≡ t → line ≡ lineAt (s .at) (s .node)
       own true q = absurd (whole-of-form s x y q line f)
       own false q = sym (refused-same (rw q at f) .1)
 

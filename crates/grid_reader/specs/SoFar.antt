@@ -8,17 +8,17 @@ use Rattle.decimal.specs.Spelling.{spell}
 use Rattle.decimal.specs.Pushing.{part}
 use Rattle.grid.specs.declared.Header.{Header}
 use Rattle.grid_text.specs.Text.{headerText, nodeLines}
-use Rattle.grid_reader.specs.Scan.{formAt}
+use Rattle.grid_reader.specs.Scan.{southAt, westAt, dlatAt, dlonAt, rowsAt, nodeLineAt, endLineAt, formAt}
 use Rattle.grid_reader.specs.declared.Scan.{Scan}
 
 -- the number of the header at a place of the form
 abbrev pub numberAt : Header → (place : ℕ) → ℤ
 numberAt h i =
-    cond (eqb i 26) (h .south .0)
-    (cond (eqb i 33) (h .west .0)
-    (cond (eqb i 40) (h .dlat)
-    (cond (eqb i 47) (h .dlon)
-    (cond (eqb i 54) (h .rows) (h .cols)))))
+    cond (eqb i southAt) (h .south .0)
+    (cond (eqb i westAt) (h .west .0)
+    (cond (eqb i dlatAt) (h .dlat)
+    (cond (eqb i dlonAt) (h .dlon)
+    (cond (eqb i rowsAt) (h .rows) (h .cols)))))
 
 -- `length` places of the form from a place on, each `#` replaced by its number
 unfoldable pub filledForm : (number : ℕ → ℤ) → (from length : ℕ) → List ℕ
@@ -28,10 +28,10 @@ filledForm number a (suc i) = filledForm number a i ++ cond (eqb (formAt (a + i)
 -- in the header; in the line of a node; in the end line
 unfoldable pub linesSoFar : Scan → (lat lon : List ℤ) → List ℕ
 linesSoFar s lat lon =
-    cond (ltb (s .at) 63) (filledForm (numberAt (s .header)) 0 (s .at))
-    (cond (ltb (s .at) 72)
-    (headerText (s .header) ++ nodeLines lat lon (s .node) ++ filledForm (λ _. s .lat) 63 (s .at - 63))
-    (headerText (s .header) ++ nodeLines lat lon (s .count) ++ filledForm (λ _. pos (s .count)) 72 (s .at - 72)))
+    cond (ltb (s .at) nodeLineAt) (filledForm (numberAt (s .header)) 0 (s .at))
+    (cond (ltb (s .at) endLineAt)
+    (headerText (s .header) ++ nodeLines lat lon (s .node) ++ filledForm (λ _. s .lat) nodeLineAt (s .at - nodeLineAt))
+    (headerText (s .header) ++ nodeLines lat lon (s .count) ++ filledForm (λ _. pos (s .count)) endLineAt (s .at - endLineAt)))
 
 -- and the number under way
 unfoldable pub soFar : Scan → (lat lon : List ℤ) → List ℕ

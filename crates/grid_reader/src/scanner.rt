@@ -9,7 +9,7 @@ use grid::Header;
 ghost use mathlib.Core.Path.{_≡_};
 ghost use mathlib.Core.Bool.{_&&_, _||_, cond};
 ghost use Prim.Native.Nat.{_≤_, _<_, min};
-ghost use Rattle.grid_reader.specs.Scan.{formAt, lineEnd, lineAt, start, departs, to, filled, headerNumberEnd, headerEnd, nodeEnd, countEnd, closed, leads, withNumber, grown, numberStep, literalStep, step};
+ghost use Rattle.grid_reader.specs.Scan.{colsAt, formAt, lineEnd, lineAt, start, departs, to, filled, headerNumberEnd, headerEnd, nodeEnd, countEnd, closed, leads, withNumber, grown, numberStep, literalStep, step};
 
 // A `#` stands for a number. The node line comes once for each node.
 const FORM: [u8; 78] =
@@ -169,7 +169,7 @@ fn close(s: Scan, x: i64, room: usize) -> Step
 }
 
 fn end_header_number(s: Scan, x: i64) -> Step
-    requires { ⌜ s .at < 61 ⌝ }
+    requires { ⌜ s .at < colsAt ⌝ }
     ensures { λ r. ⌜ r ≡ headerNumberEnd s x ⌝ }
 {
     let header = s.header;

@@ -2,7 +2,7 @@
 use Prim.Native.Nat.{ℕ}
 use mathlib.Core.Path.{_≡_, refl}
 use mathlib.Core.List.{List, [], _∷_}
-use lib.IntN.{ℤ, pos}
+use lib.IntN.{pos}
 use mir.Syntax.{w64}
 use mir.Val.{SFits}
 use mir.Facts.{toZ-ofZ}
@@ -10,6 +10,7 @@ use Rattle.laws.specs.Expr.{machine}
 use Rattle.laws.specs.Bytes.{bytes}
 use Rattle.decimal.proofs.Over.{joined}
 use Rattle.lines.specs.Text.{line}
+use Rattle.grid.specs.Grid.{Grid}
 use Rattle.grid.specs.Rules.{nodeCount}
 use Rattle.grid.specs.declared.Header.{Header}
 use Rattle.grid_text.specs.Text.{headerText, nodeLines, gridText}
@@ -29,6 +30,6 @@ pub header-joins : (h : Header) → SFits w64 (h .south .0) → SFits w64 (h .we
 unfolding headerText
 header-joins h s w a b m n = rw (toZ-ofZ s, toZ-ofZ w, toZ-ofZ a, toZ-ofZ b, toZ-ofZ m, toZ-ofZ n)
 
-pub grid-joins : (h : Header) (lat lon : List ℤ) → joined (headerText h) (nodeLines lat lon (nodeCount h) ∷ line (bytes "end=") (pos (nodeCount h)) ∷ []) ≡ gridText h lat lon
+pub grid-joins : (g : Grid) → joined (headerText (g .header)) (nodeLines (g .lat) (g .lon) (nodeCount (g .header)) ∷ line (bytes "end=") (pos (nodeCount (g .header))) ∷ []) ≡ gridText g
 unfolding gridText
-grid-joins h lat lon = refl
+grid-joins g = refl

@@ -17,6 +17,7 @@ use Rattle.decimal.proofs.Lengths.{length-spell}
 use Rattle.decimal.proofs.Digits.{lt-or-ge}
 use Rattle.lines.specs.Text.{line, pairLine}
 use Rattle.lines.proofs.Lengths.{length-line, length-pair}
+use Rattle.grid.specs.Grid.{Grid}
 use Rattle.grid.specs.Rules.{nodeCount}
 use Rattle.grid.specs.declared.Header.{Header}
 use Rattle.grid.specs.Nodes.{node}
@@ -45,12 +46,12 @@ nodes-grow lat lon k zero h = let e : k ≡ 0 = omega arith in rw e (le-refl _)
 nodes-grow lat lon k (suc n) h =
     ⊎-elim
     (λ l. simp length-append (omega (arith, nodes-grow lat lon k n (omega arith))))
-    (λ g. let e : k ≡ suc n = omega arith in rw e (le-refl _))
+    (λ ok. let e : k ≡ suc n = omega arith in rw e (le-refl _))
     (lt-or-ge k (suc n))
 
-pub length-grid : (h : Header) (lat lon : List ℤ) → length (gridText h lat lon) ≡ length (headerText h) + length (nodeLines lat lon (nodeCount h)) + length (line (bytes "end=") (pos (nodeCount h)))
+pub length-grid : (g : Grid) → length (gridText g) ≡ length (headerText (g .header)) + length (nodeLines (g .lat) (g .lon) (nodeCount (g .header))) + length (line (bytes "end=") (pos (nodeCount (g .header))))
 unfolding gridText
-length-grid h lat lon = simp length-append (omega arith)
+length-grid g = simp length-append (omega arith)
 
 -- ---- the text of a grid that passes the checks is at most 48,000 bytes long
 
@@ -88,17 +89,17 @@ header-length {h} r =
       number-length (r .cols) tt tt,
     )
 
-pub text-length : (h : Header) (lat lon : List ℤ) → Passes h lat lon → length (gridText h lat lon) ≤ 48000
-text-length h lat lon e =
-    let g = good h lat lon e in
-    let n = nodeCount h in
-    let m : n ≤ 2048 = extent (g .header) .nodes in
+pub text-length : (g : Grid) → Passes g → length (gridText g) ≤ 48000
+text-length g e =
+    let ok = good g e in
+    let n = nodeCount (g .header) in
+    let m : n ≤ 2048 = extent (ok .header) .nodes in
     omega (
       arith,
-      length-grid h lat lon,
-      header-length (g .header),
+      length-grid g,
+      header-length (ok .header),
       m,
-      nodes-length lat lon n n (g .of-lat .ranged) (g .of-lon .ranged) (omega arith),
+      nodes-length (g .lat) (g .lon) n n (ok .of-lat .ranged) (ok .of-lon .ranged) (omega arith),
       length-line (bytes "end=") (pos n),
       length-spell (pos n) 4 (omega arith) (omega arith),
     )

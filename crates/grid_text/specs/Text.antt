@@ -4,6 +4,7 @@ use mathlib.Core.List.{List, [], _++_}
 use lib.IntN.{ℤ, pos}
 use Rattle.laws.specs.Bytes.{bytes}
 use Rattle.lines.specs.Text.{line, pairLine}
+use Rattle.grid.specs.Grid.{Grid}
 use Rattle.grid.specs.Rules.{nodeCount}
 use Rattle.grid.specs.Nodes.{node}
 use Rattle.grid.specs.declared.Header.{Header}
@@ -29,5 +30,5 @@ nodeLines lat lon zero = []
 nodeLines lat lon (suc k) = nodeLines lat lon k ++ nodeLine (node lat k) (node lon k)
 
 -- "`end=` and the number of nodes"
-unfoldable pub gridText : Header → (lat lon : List ℤ) → List ℕ
-gridText h lat lon = headerText h ++ nodeLines lat lon (nodeCount h) ++ line (bytes "end=") (pos (nodeCount h))
+unfoldable pub gridText : Grid → List ℕ
+gridText g = headerText (g .header) ++ nodeLines (g .lat) (g .lon) (nodeCount (g .header)) ++ line (bytes "end=") (pos (nodeCount (g .header)))

@@ -5,6 +5,7 @@ use grid::Header;
 ghost use mathlib.Core.Path.{_≡_};
 ghost use Prim.Native.Nat.{_≤_};
 ghost use lib.ListN.{length};
+ghost use Rattle.grid.specs.Grid.{gridOf};
 ghost use Rattle.grid_text.specs.Text.{headerText, nodeLines, gridText};
 ghost use Rattle.grid_text.specs.Needs.{Ready};
 
@@ -33,8 +34,8 @@ fn nodes_length<'a>(lat: &'a [i64], lon: &'a [i64], n: usize) -> usize
 }
 
 pub(crate) fn text_length<'a>(h: Header, lat: &'a [i64], lon: &'a [i64]) -> usize
-    requires { ⌜ Ready h (now lat) (now lon) ⌝ }
-    ensures { λ r. ⌜ r ≡ length (gridText h (now (lat .entry)) (now (lon .entry))) ⌝ }
+    requires { ⌜ Ready (gridOf h (now lat) (now lon)) ⌝ }
+    ensures { λ r. ⌜ r ≡ length (gridText (gridOf h (now (lat .entry)) (now (lon .entry)))) ⌝ }
 {
     let n = node_count(h);
     header_length(h) + nodes_length(lat, lon, n) + lines::line_length(b"end=", n as i64)

@@ -6,6 +6,7 @@ ghost use mathlib.Core.List.{_++_};
 ghost use lib.ListN.{length, take};
 ghost use Rattle.decimal.specs.Wrote.{Wrote};
 ghost use Rattle.lines.specs.Text.{line};
+ghost use Rattle.grid.specs.Grid.{gridOf};
 ghost use Rattle.grid_text.specs.Text.{headerText, nodeLines, gridText};
 ghost use Rattle.grid_text.specs.Needs.{Ready};
 
@@ -48,9 +49,9 @@ fn put_nodes<'a>(lat: &'a [i64], lon: &'a [i64], n: usize, room: &mut [u8]) -> u
 }
 
 pub(crate) fn put_grid<'a>(h: Header, lat: &'a [i64], lon: &'a [i64], room: &mut [u8]) -> usize
-    requires { ⌜ Ready h (now lat) (now lon) ⌝ }
-    requires { ⌜ length (gridText h (now lat) (now lon)) ≤ length (now room) ⌝ }
-    ensures { λ r. ⌜ Wrote (gridText h (now (lat .entry)) (now (lon .entry))) (now (room .entry)) (now (room .exit)) r ⌝ }
+    requires { ⌜ Ready (gridOf h (now lat) (now lon)) ⌝ }
+    requires { ⌜ length (gridText (gridOf h (now lat) (now lon))) ≤ length (now room) ⌝ }
+    ensures { λ r. ⌜ Wrote (gridText (gridOf h (now (lat .entry)) (now (lon .entry)))) (now (room .entry)) (now (room .exit)) r ⌝ }
 {
     let n = node_count(h);
     let mut at = put_header(h, room);

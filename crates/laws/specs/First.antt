@@ -4,7 +4,7 @@ use mathlib.Core.Path.{_≡_, refl, ap}
 use native.Mathlib.Omega.{arith}
 use mathlib.Core.Bool.{Bool, true, false, cond}
 use lib.Dec.{ltb}
-use borrow.Author.Tests.{ltb-false}
+use borrow.Author.Tests.{ltb-true, ltb-false}
 
 -- the lowest number below `n` at which `p` holds, or `n` where there is none
 unfoldable pub first : (ℕ → Bool) → ℕ → ℕ
@@ -33,6 +33,19 @@ first-past p (suc n) j l h = past p (first (λ k. p (suc k)) n) (p 0) refl n (λ
 -- where the search came to the end, the test holds nowhere
 pub first-none : (p : ℕ → Bool) (n : ℕ) → ltb (first p n) n ≡ false → (j : ℕ) → j < n → p j ≡ false
 first-none p n e j h = first-past p n j (ltb-false _ _ e) h
+
+holds : (p : ℕ → Bool) (m : ℕ) (b : Bool) → p 0 ≡ b → (n : ℕ) → (m < n → p (suc m) ≡ true) → cond b 0 (suc m) < suc n → p (cond b 0 (suc m)) ≡ true
+holds p m true e n k l = e
+holds p m false e n k l = k (omega arith)
+
+first-holds : (p : ℕ → Bool) (n : ℕ) → first p n < n → p (first p n) ≡ true
+unfolding first
+first-holds p zero l = absurd (omega arith)
+first-holds p (suc n) l = holds p (first (λ k. p (suc k)) n) (p 0) refl n (λ h. first-holds (λ k. p (suc k)) n h) l
+
+-- where the search stopped before the end, the test holds
+pub first-found : (p : ℕ → Bool) (n : ℕ) → ltb (first p n) n ≡ true → p (first p n) ≡ true
+first-found p n e = first-holds p n (ltb-true _ _ e)
 
 -- a search looks at the numbers below its end alone
 pub first-same : (p q : ℕ → Bool) (n : ℕ) → ((j : ℕ) → j < n → p j ≡ q j) → first p n ≡ first q n

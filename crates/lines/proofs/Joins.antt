@@ -8,17 +8,13 @@ use Rattle.decimal.specs.Spelling.{spell}
 use Rattle.decimal.proofs.Over.{joined}
 use Rattle.lines.specs.Text.{line, pairLine}
 
--- the newline
-abbrev pub newline : List ℕ
-newline = bytes "\n"
-
-pub line-joins : (key : List ℕ) (x : ℤ) → joined (key ++ spell x) (newline ∷ []) ≡ line key x
+pub line-joins : (key : List ℕ) (x : ℤ) → joined (key ++ spell x) (bytes "\n" ∷ []) ≡ line key x
 unfolding line
 line-joins key x = refl
 
 pub pair-joins : (key : List ℕ) (x y : ℤ) → joined (key ++ spell x) (line (bytes ",") y ∷ []) ≡ pairLine key x y
 unfolding line pairLine
-pair-joins key x y = go (key ++ spell x) (bytes ",") (spell y) newline
+pair-joins key x y = go (key ++ spell x) (bytes ",") (spell y) (bytes "\n")
   where
     go : (p q r s : List ℕ) → p ++ (q ++ r ++ s) ≡ p ++ q ++ r ++ s
     go p q r s = simp append-assoc

@@ -5,6 +5,9 @@ use lib.IntN.{ℤ}
 use Rattle.laws.specs.Bytes.{bytes}
 use Rattle.decimal.specs.Spelling.{spell}
 
+abbrev pub newline : ℕ
+newline = 10
+
 -- `key=NUMBER`
 unfoldable pub line : (key : List ℕ) → ℤ → List ℕ
 line key x = key ++ spell x ++ bytes "\n"

@@ -5,12 +5,12 @@ use mathlib.Core.Bool.{cond}
 use mathlib.Core.List.{List, [], _∷_, _++_, append-nil}
 use native.Mathlib.Omega.{arith}
 use lib.ListN.{length}
-use lib.IntN.{ℤ, pos}
+use lib.IntN.{pos}
 use Rattle.laws.specs.Logic.{either-way}
 use Rattle.laws.specs.Over.{over}
+use Rattle.grid.specs.Grid.{Grid}
 use Rattle.grid.specs.Rules.{nodesOf}
 use Rattle.grid.specs.Check.{Passes}
-use Rattle.grid.specs.declared.Header.{Header}
 use Rattle.requests.specs.Requests.{requestIn}
 use Rattle.requests.specs.Replies.{Conversions, checkedOnce, checkedAfresh, isAnswer, replyTo}
 use Rattle.requests.specs.declared.Reply.{Reply}
@@ -38,13 +38,13 @@ module _ (c : Conversions) where
   fresh-fed = refl
 
 -- the pieces written, joined, are what the list writes for the pieces read, joined
-pub in-pieces : (h : Header) (lat lon : List ℤ) → Passes h lat lon → (pieces : List (List ℕ)) → length (joined pieces) < 2 ^ 63
-    → inPieces (nodesOf h) (checkedOnce h lat lon) pieces ≡ listText (nodesOf h) (checkedAfresh h lat lon) (joined pieces)
+pub in-pieces : (g : Grid) → Passes g → (pieces : List (List ℕ)) → length (joined pieces) < 2 ^ 63
+    → inPieces (nodesOf (g .header)) (checkedOnce g) pieces ≡ listText (nodesOf (g .header)) (checkedAfresh g) (joined pieces)
 unfolding inPieces
-in-pieces h lat lon e pieces b =
-    let c = checkedOnce h lat lon in
+in-pieces g e pieces b =
+    let c = checkedOnce g in
     let r = feed-joined c fresh (fresh-fed c) pieces in
-    rw (r .0, r .1) (sym (list-text (nodesOf h) c (joined pieces) b) ∙ ap (λ d. listText (nodesOf h) d (joined pieces)) (once-afresh h lat lon e))
+    rw (r .0, r .1) (sym (list-text (nodesOf (g .header)) c (joined pieces) b) ∙ ap (λ d. listText (nodesOf (g .header)) d (joined pieces)) (once-afresh g e))
 
 -- ---- totals
 

@@ -14,10 +14,11 @@ use Rattle.bytes.specs.Bytes.{indexAfter, indexOf}
 use Rattle.laws.specs.Logic.{either-way}
 use Rattle.laws.specs.Over.{over}
 use Rattle.decimal.specs.Wrote.{written}
+use Rattle.lines.specs.Text.{newline}
 use Rattle.requests.specs.Requests.{requestIn}
 use Rattle.requests.specs.Replies.{Conversions, isAnswer, replyTo, replyText}
 use Rattle.requests.specs.declared.Reply.{Reply}
-use Rattle.listing.specs.Lines.{newline, replies, rest, texts, answers, refusals}
+use Rattle.listing.specs.Lines.{replies, rest, texts, answers, refusals}
 use Rattle.listing.specs.Pieces.{oneMore, raised, listingOf, heldLine, counted, fedReplies, fedText, fedList}
 use Rattle.listing.specs.Needs.{Stepped}
 use Rattle.listing.specs.declared.Listing.{Listing}

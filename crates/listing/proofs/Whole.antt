@@ -11,13 +11,15 @@ use lib.IntN.{ℤ, pos}
 use lib.Signed.{_<ℤ_}
 use Rattle.laws.specs.Logic.{ltZ-true, either-way}
 use Rattle.laws.specs.Over.{over}
+use Rattle.lines.specs.Text.{newline}
+use Rattle.grid.specs.Grid.{Grid}
 use Rattle.grid.specs.Check.{Passes}
-use Rattle.grid.specs.declared.Header.{Header}
-use Rattle.convert.proofs.Cases.{forward-passes, inverse-passes}
+use Rattle.convert.proofs.Cases.{forward-passes}
+use Rattle.convert.proofs.RoundLaws.{inverse-passes}
 use Rattle.requests.specs.Requests.{requestIn}
 use Rattle.requests.specs.Replies.{Conversions, checkedOnce, checkedAfresh, isAnswer, replyTo, replyText}
 use Rattle.requests.specs.declared.Reply.{Reply}
-use Rattle.listing.specs.Lines.{newline, replies, rest, unended, allReplies, texts, answers, refusals}
+use Rattle.listing.specs.Lines.{replies, rest, unended, allReplies, texts, answers, refusals}
 use Rattle.listing.specs.Listing.{sheetText, listText}
 use Rattle.listing.specs.Pieces.{oneMore, raised, listingOf, fresh, fedReplies, fedText, fedList, endText}
 use Rattle.listing.proofs.Cuts.{held-of, texts-append, answers-append, refusals-append}
@@ -96,5 +98,5 @@ module _ (n : ℕ) (c : Conversions) (text : List ℕ) (h : length text < 2 ^ 63
 
 -- ---- the grid is checked once
 
-pub once-afresh : (h : Header) (lat lon : List ℤ) → Passes h lat lon → checkedOnce h lat lon ≡ checkedAfresh h lat lon
-once-afresh h lat lon e = λ i. record { to83 = λ p. forward-passes h lat lon p e i; to27 = λ f. inverse-passes h lat lon f e i }
+pub once-afresh : (g : Grid) → Passes g → checkedOnce g ≡ checkedAfresh g
+once-afresh g e = λ i. record { to83 = λ p. forward-passes g p e i; to27 = λ f. inverse-passes g f e i }

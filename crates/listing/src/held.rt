@@ -7,8 +7,9 @@ use requests::Reply;
 ghost use mathlib.Core.Path.{_≡_};
 ghost use mathlib.Core.List.{_++_};
 ghost use lib.ListN.{take};
+ghost use Rattle.grid.specs.Grid.{gridOf};
 ghost use Rattle.requests.specs.Requests.{requestIn};
-ghost use Rattle.requests.specs.Replies.{isAnswer, checkedOnce, replyTo};
+ghost use Rattle.requests.specs.Replies.{checkedOnce, replyTo};
 ghost use Rattle.listing.specs.Pieces.{heldLine, listingOf, counted};
 
 impl Listing {
@@ -52,7 +53,7 @@ impl Listing {
 
     // The reply to its line, whose last bytes are `part`.
     pub(crate) fn reply<'a>(self, h: Header, lat: &'a [i64], lon: &'a [i64], part: &[u8]) -> Reply
-        ensures { λ r. ⌜ r ≡ replyTo (checkedOnce h (now (lat .entry)) (now (lon .entry))) (requestIn (heldLine self ++ now (part .entry))) ⌝ }
+        ensures { λ r. ⌜ r ≡ replyTo (checkedOnce (gridOf h (now (lat .entry)) (now (lon .entry)))) (requestIn (heldLine self ++ now (part .entry))) ⌝ }
     {
         if self.length == 0 {
             return requests::reply_to(h, lat, lon, part);

@@ -11,6 +11,7 @@ use requests::Reply;
 ghost use mathlib.Core.Path.{_≡_};
 ghost use Rattle.lines.specs.Writing.{outcome, roomAfter};
 ghost use Rattle.requests.specs.Replies.{checkedAfresh, checkedOnce};
+ghost use Rattle.grid.specs.Grid.{gridOf};
 ghost use Rattle.grid.specs.Rules.{nodesOf};
 ghost use Rattle.listing.specs.Listing.{sheetText, listText, inRoom, beginning, listing};
 ghost use Rattle.listing.specs.Pieces.{fresh, fedText, fedList, endText, listAfter};
@@ -47,7 +48,7 @@ impl Listing {
 
 // The first line of a list. It is the check of the grid: 2, 5, 3, 4, then 8.
 pub fn begin<'a>(h: Header, lat: &'a [i64], lon: &'a [i64], room: &mut [u8]) -> Written
-    ensures answer { λ r. ⌜ outcome r ≡ beginning h (now (lat .entry)) (now (lon .entry)) (now (room .entry)) ⌝ }
+    ensures answer { λ r. ⌜ outcome r ≡ beginning (gridOf h (now (lat .entry)) (now (lon .entry))) (now (room .entry)) ⌝ }
     ensures text { λ r. ⌜ now (room .exit) ≡ roomAfter (outcome r) (sheetText (nodesOf h)) (now (room .entry)) ⌝ }
 {
     match grid::check(h, lat, lon) {
@@ -78,9 +79,9 @@ pub fn feed<'a>(
     piece: &[u8],
     room: &mut [u8],
 ) -> Fed
-    ensures answer { λ r. ⌜ outcome (r .written) ≡ inRoom (fedText (checkedOnce h (now (lat .entry)) (now (lon .entry))) list (now (piece .entry))) (now (room .entry)) ⌝ }
-    ensures list { λ r. ⌜ r .list ≡ listAfter (outcome (r .written)) (fedList (checkedOnce h (now (lat .entry)) (now (lon .entry))) list (now (piece .entry))) list ⌝ }
-    ensures text { λ r. ⌜ now (room .exit) ≡ roomAfter (outcome (r .written)) (fedText (checkedOnce h (now (lat .entry)) (now (lon .entry))) list (now (piece .entry))) (now (room .entry)) ⌝ }
+    ensures answer { λ r. ⌜ outcome (r .written) ≡ inRoom (fedText (checkedOnce (gridOf h (now (lat .entry)) (now (lon .entry)))) list (now (piece .entry))) (now (room .entry)) ⌝ }
+    ensures list { λ r. ⌜ r .list ≡ listAfter (outcome (r .written)) (fedList (checkedOnce (gridOf h (now (lat .entry)) (now (lon .entry)))) list (now (piece .entry))) list ⌝ }
+    ensures text { λ r. ⌜ now (room .exit) ≡ roomAfter (outcome (r .written)) (fedText (checkedOnce (gridOf h (now (lat .entry)) (now (lon .entry)))) list (now (piece .entry))) (now (room .entry)) ⌝ }
 {
     let lacks = putting::lacking(list, h, lat, lon, piece, room.len());
     if lacks != 0 {
@@ -111,8 +112,8 @@ pub fn finish(list: Listing, room: &mut [u8]) -> Written
 
 // The whole list for a request text: 2, 5, 3, 4, then 8. The grid is checked once.
 pub fn list<'a>(h: Header, lat: &'a [i64], lon: &'a [i64], text: &[u8], room: &mut [u8]) -> Written
-    ensures answer { λ r. ⌜ outcome r ≡ listing h (now (lat .entry)) (now (lon .entry)) (now (text .entry)) (now (room .entry)) ⌝ }
-    ensures text { λ r. ⌜ now (room .exit) ≡ roomAfter (outcome r) (listText (nodesOf h) (checkedAfresh h (now (lat .entry)) (now (lon .entry))) (now (text .entry))) (now (room .entry)) ⌝ }
+    ensures answer { λ r. ⌜ outcome r ≡ listing (gridOf h (now (lat .entry)) (now (lon .entry))) (now (text .entry)) (now (room .entry)) ⌝ }
+    ensures text { λ r. ⌜ now (room .exit) ≡ roomAfter (outcome r) (listText (nodesOf h) (checkedAfresh (gridOf h (now (lat .entry)) (now (lon .entry)))) (now (text .entry))) (now (room .entry)) ⌝ }
 {
     match grid::check(h, lat, lon) {
         Checked::Refused(why) => Written::Refused(why),
@@ -128,8 +129,8 @@ fn list_checked<'a>(
     text: &[u8],
     room: &mut [u8],
 ) -> Written
-    ensures answer { λ r. ⌜ outcome r ≡ inRoom (listText (nodesOf h) (checkedOnce h (now (lat .entry)) (now (lon .entry))) (now (text .entry))) (now (room .entry)) ⌝ }
-    ensures text { λ r. ⌜ now (room .exit) ≡ roomAfter (outcome r) (listText (nodesOf h) (checkedOnce h (now (lat .entry)) (now (lon .entry))) (now (text .entry))) (now (room .entry)) ⌝ }
+    ensures answer { λ r. ⌜ outcome r ≡ inRoom (listText (nodesOf h) (checkedOnce (gridOf h (now (lat .entry)) (now (lon .entry)))) (now (text .entry))) (now (room .entry)) ⌝ }
+    ensures text { λ r. ⌜ now (room .exit) ≡ roomAfter (outcome r) (listText (nodesOf h) (checkedOnce (gridOf h (now (lat .entry)) (now (lon .entry)))) (now (text .entry))) (now (room .entry)) ⌝ }
 {
     let needed = putting::put_list(h, lat, lon, text, &mut room[0..0]);
     if room.len() < needed {

@@ -8,6 +8,7 @@ use requests::Reply;
 ghost use Prim.Native.Nat.{_<_};
 ghost use lib.ListN.{length};
 ghost use Rattle.requests.specs.Replies.{checkedOnce};
+ghost use Rattle.grid.specs.Grid.{gridOf};
 ghost use Rattle.grid.specs.Rules.{nodesOf};
 ghost use Rattle.listing.specs.Listing.{listText};
 ghost use Rattle.listing.specs.Pieces.{fedText, endText};
@@ -31,7 +32,7 @@ pub(crate) fn lacking<'a>(
     room: usize,
 ) -> usize
     requires { ⌜ room < 9223372036854775808 ⌝ }
-    ensures { λ r. ⌜ Lacking (fedText (checkedOnce h (now (lat .entry)) (now (lon .entry))) list (now (piece .entry))) (length (now (piece .entry))) room r ⌝ }
+    ensures { λ r. ⌜ Lacking (fedText (checkedOnce (gridOf h (now (lat .entry)) (now (lon .entry)))) list (now (piece .entry))) (length (now (piece .entry))) room r ⌝ }
 {
     if piece.len() <= room / Reply::MAX_TEXT {
         return 0;
@@ -53,8 +54,8 @@ pub(crate) fn put_replies<'a>(
     piece: &[u8],
     room: &mut [u8],
 ) -> Advance
-    requires { ⌜ Roomy (fedText (checkedOnce h (now lat) (now lon)) list (now piece)) (length (now piece)) (now room) ⌝ }
-    ensures { λ r. ⌜ Replied (checkedOnce h (now (lat .entry)) (now (lon .entry))) list (now (piece .entry)) (now (room .entry)) (now (room .exit)) r ⌝ }
+    requires { ⌜ Roomy (fedText (checkedOnce (gridOf h (now lat) (now lon))) list (now piece)) (length (now piece)) (now room) ⌝ }
+    ensures { λ r. ⌜ Replied (checkedOnce (gridOf h (now (lat .entry)) (now (lon .entry)))) list (now (piece .entry)) (now (room .entry)) (now (room .exit)) r ⌝ }
 {
     let mut next = list.hold(&piece[0..0]);
     let mut taken: usize = 0;
@@ -82,7 +83,7 @@ fn put_line<'a>(
     text: &[u8],
     room: &mut [u8],
 ) -> Advance
-    ensures { λ r. ⌜ Stepped (checkedOnce h (now (lat .entry)) (now (lon .entry))) list (now (text .entry)) (now (room .entry)) (now (room .exit)) r ⌝ }
+    ensures { λ r. ⌜ Stepped (checkedOnce (gridOf h (now (lat .entry)) (now (lon .entry)))) list (now (text .entry)) (now (room .entry)) (now (room .exit)) r ⌝ }
 {
     let end = bytes::scan::find(text, 0, text.len(), b'\n');
     if text.len() <= end {
@@ -125,8 +126,8 @@ pub(crate) fn put_list<'a>(
     text: &[u8],
     room: &mut [u8],
 ) -> usize
-    requires { ⌜ Enough (listText (nodesOf h) (checkedOnce h (now lat) (now lon)) (now text)) (now room) ⌝ }
-    ensures { λ r. ⌜ Put (listText (nodesOf h) (checkedOnce h (now (lat .entry)) (now (lon .entry))) (now (text .entry))) (now (room .entry)) (now (room .exit)) r ⌝ }
+    requires { ⌜ Enough (listText (nodesOf h) (checkedOnce (gridOf h (now lat) (now lon))) (now text)) (now room) ⌝ }
+    ensures { λ r. ⌜ Put (listText (nodesOf h) (checkedOnce (gridOf h (now (lat .entry)) (now (lon .entry)))) (now (text .entry))) (now (room .entry)) (now (room .exit)) r ⌝ }
 {
     let sheet = Reply::Sheet(h.nodes() as i64);
     let mut at = sheet.write(room);

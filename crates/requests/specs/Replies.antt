@@ -2,7 +2,7 @@
 use Prim.Native.Nat.{ℕ}
 use mathlib.Core.Bool.{Bool, true, false}
 use mathlib.Core.List.{List}
-use lib.IntN.{ℤ, pos}
+use lib.IntN.{pos}
 use Rattle.laws.specs.Bytes.{bytes}
 use Rattle.figures.specs.Refusal.{numberOf}
 use Rattle.figures.specs.Outcome.{Outcome, answered, refused}
@@ -10,8 +10,9 @@ use Rattle.figures.specs.declared.Refusal.{Refusal}
 use Rattle.figures.specs.declared.Point27.{Point27}
 use Rattle.figures.specs.declared.Point83.{Point83}
 use Rattle.lines.specs.Text.{line, pairLine}
-use Rattle.grid.specs.declared.Header.{Header}
-use Rattle.convert.specs.Convert.{to83, to27, forward, inverse}
+use Rattle.grid.specs.Grid.{Grid}
+use Rattle.convert.specs.Convert.{to83, to27, forward}
+use Rattle.convert.specs.Rounds.{inverse}
 use Rattle.requests.specs.declared.Request.{Request}
 use Rattle.requests.specs.declared.Asked.{Asked}
 use Rattle.requests.specs.declared.Reply.{Reply}
@@ -23,12 +24,12 @@ pub record Conversions : Type 0 where
   pub to27 : Point83 → Outcome Point27
 
 -- "A public conversion checks the sheet afresh"
-abbrev pub checkedAfresh : Header → (lat lon : List ℤ) → Conversions
-checkedAfresh h lat lon = record { to83 = to83 h lat lon; to27 = to27 h lat lon }
+abbrev pub checkedAfresh : Grid → Conversions
+checkedAfresh g = record { to83 = to83 g; to27 = to27 g }
 
 -- "the list below checks it once". On a grid that passes the checks these answer the same
-abbrev pub checkedOnce : Header → (lat lon : List ℤ) → Conversions
-checkedOnce h lat lon = record { to83 = forward h lat lon; to27 = inverse h lat lon }
+abbrev pub checkedOnce : Grid → Conversions
+checkedOnce g = record { to83 = forward g; to27 = inverse g }
 
 -- ---- replies
 

@@ -9,6 +9,7 @@ use figures::Point83;
 use figures::Refusal;
 use grid::Header;
 ghost use mathlib.Core.Path.{_≡_};
+ghost use Rattle.grid.specs.Grid.{gridOf};
 ghost use Rattle.convert.specs.Convert.{outcome83, outcome27};
 ghost use Rattle.requests.specs.Requests.{requestIn};
 ghost use Rattle.requests.specs.Replies.{no, said83, said27, checkedOnce, answerTo, replyTo};
@@ -53,7 +54,7 @@ pub fn read_request(line: &[u8]) -> Asked
 
 // The reply to a request line, without its newline, over a grid that the caller has had checked.
 pub fn reply_to<'a>(h: Header, lat: &'a [i64], lon: &'a [i64], line: &[u8]) -> Reply
-    ensures { λ r. ⌜ r ≡ replyTo (checkedOnce h (now (lat .entry)) (now (lon .entry))) (requestIn (now (line .entry))) ⌝ }
+    ensures { λ r. ⌜ r ≡ replyTo (checkedOnce (gridOf h (now (lat .entry)) (now (lon .entry)))) (requestIn (now (line .entry))) ⌝ }
 {
     match read_request(line) {
         Asked::Refused => Reply::No(1),
@@ -62,7 +63,7 @@ pub fn reply_to<'a>(h: Header, lat: &'a [i64], lon: &'a [i64], line: &[u8]) -> R
 }
 
 fn answer<'a>(h: Header, lat: &'a [i64], lon: &'a [i64], q: Request) -> Reply
-    ensures { λ r. ⌜ r ≡ answerTo (checkedOnce h (now (lat .entry)) (now (lon .entry))) q ⌝ }
+    ensures { λ r. ⌜ r ≡ answerTo (checkedOnce (gridOf h (now (lat .entry)) (now (lon .entry)))) q ⌝ }
 {
     match q {
         Request::To83(p) => say83(convert::forward(h, lat, lon, p)),

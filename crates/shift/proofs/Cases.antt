@@ -14,10 +14,10 @@ use Rattle.laws.specs.Expr.{machine}
 use Rattle.laws.specs.Logic.{neither}
 use Rattle.figures.specs.Outcome.{answered, refused}
 use Rattle.figures.proofs.Laws.{both-answered, not-refused}
+use Rattle.grid.specs.Grid.{Grid}
 use Rattle.grid.specs.Rules.{shape}
 use Rattle.grid.specs.Nodes.{node, beyondRange, outOfRange}
 use Rattle.grid.specs.Check.{layout}
-use Rattle.grid.specs.declared.Header.{Header}
 use Rattle.grid.specs.declared.Shape.{Shape}
 use Rattle.grid.specs.Needs.{Extent}
 use Rattle.grid.proofs.RuleLaws.{extent}
@@ -98,12 +98,12 @@ module _ (s : Shape) (lat lon : List ℤ) (x y : ℕ) where
     unfolding shiftOn
     on-grid q = rw (le-ltb _ _ p, le-ltb _ _ q)
 
-module _ (h : Header) (lat lon : List ℤ) (x y : ℕ) where
-  pub layout-refused : {n k : ℕ} → refused n k ≡ layout h lat lon → refused n k ≡ shiftAt h lat lon x y
+module _ (g : Grid) (x y : ℕ) where
+  pub layout-refused : {n k : ℕ} → refused n k ≡ layout g → refused n k ≡ shiftAt g x y
   unfolding shiftAt
   layout-refused e = rw (← e)
 
-  pub layout-passes : answered tt ≡ layout h lat lon → shiftOn (shape h) lat lon x y ≡ shiftAt h lat lon x y
+  pub layout-passes : answered tt ≡ layout g → shiftOn (shape (g .header)) (g .lat) (g .lon) x y ≡ shiftAt g x y
   unfolding shiftAt
   layout-passes e = rw (← e)
 
@@ -132,8 +132,8 @@ module _ (s : Shape) (z : Extent s) (lat lon : List ℤ) where
       let o = neither (ltb ((s .cols - 1) * s .dlon) x) (ltb ((s .rows - 1) * s .dlat) y) (t .0) in
       in-cell-range (cellAt s x y) (cell-in z (cell-of-point z (ltb-false _ _ (o .0)) (ltb-false _ _ (o .1)))) (t .1)
 
-pub shift-at-range : (h : Header) (lat lon : List ℤ) (x y : ℕ) {r : Shift} → shiftAt h lat lon x y ≡ answered r → Within 6000000 (r .lat) × Within 6000000 (r .lon)
+pub shift-at-range : (g : Grid) (x y : ℕ) {r : Shift} → shiftAt g x y ≡ answered r → Within 6000000 (r .lat) × Within 6000000 (r .lon)
 unfolding shiftAt
-shift-at-range h lat lon x y e =
-    let t = both-answered (layout h lat lon) (shiftOn (shape h) lat lon x y) e in
-    on-range (shape h) (extent (laid h lat lon (t .0 .1) .header)) lat lon x y (t .1)
+shift-at-range g x y e =
+    let t = both-answered (layout g) (shiftOn (shape (g .header)) (g .lat) (g .lon) x y) e in
+    on-range (shape (g .header)) (extent (laid g (t .0 .1) .header)) (g .lat) (g .lon) x y (t .1)

@@ -13,10 +13,10 @@ use Rattle.bilinear.specs.Surface.{surface, SlopeBound, surface-is, Nearest}
 use Rattle.bilinear.specs.Answers.{lipschitz, shift-between, shift-node}
 use Rattle.bilinear.specs.Search.{Regular}
 use Rattle.figures.specs.Outcome.{answered}
+use Rattle.grid.specs.Grid.{Grid}
 use Rattle.grid.specs.Rules.{shape}
 use Rattle.grid.specs.Nodes.{node}
 use Rattle.grid.specs.Needs.{Extent}
-use Rattle.grid.specs.declared.Header.{Header}
 use Rattle.grid.specs.declared.Shape.{Shape}
 use Rattle.grid.proofs.RuleLaws.{Between, extent}
 use Rattle.grid.proofs.NodeLaws.{Sound}
@@ -207,16 +207,16 @@ module _ {s : Shape} (z : Extent s) {S : List ℤ} (p : Sound s S) where
 
 -- ---- both components of a grid that passes
 
-module _ {h : Header} {lat lon : List ℤ} (g : Good h lat lon) {x y : ℕ}
-    (hx : x ≤ (shape h .cols - 1) * shape h .dlon) (hy : y ≤ (shape h .rows - 1) * shape h .dlat) where
+module _ {g : Grid} (ok : Good g) {x y : ℕ}
+    (hx : x ≤ (shape (g .header) .cols - 1) * shape (g .header) .dlon) (hy : y ≤ (shape (g .header) .rows - 1) * shape (g .header) .dlat) where
   -- the routine refuses no point of it
-  pub shift-answered : shiftAt h lat lon x y ≡ answered (shiftOf (shape h) lat lon x y)
+  pub shift-answered : shiftAt g x y ≡ answered (shiftOf (shape (g .header)) (g .lat) (g .lon) x y)
   unfolding component
   shift-answered =
-      let z = extent (g .header) in
+      let z = extent (ok .header) in
       let c = cell-in z (cell-of-point z hx hy) in
-      let i = corners-range z (g .of-lat) c in
-      let j = corners-range z (g .of-lon) c in
-      sym (layout-passes h lat lon x y (sym (g .laid-out)))
-      ∙ sym (on-grid (shape h) lat lon x y hx hy)
-      ∙ sym (none-beyond (shape h) lat lon (cellAt (shape h) x y) (node-not-beyond lat lon _ (i .sw) (j .sw)) (node-not-beyond lat lon _ (i .se) (j .se)) (node-not-beyond lat lon _ (i .nw) (j .nw)) (node-not-beyond lat lon _ (i .ne) (j .ne)))
+      let i = corners-range z (ok .of-lat) c in
+      let j = corners-range z (ok .of-lon) c in
+      sym (layout-passes g x y (sym (ok .laid-out)))
+      ∙ sym (on-grid (shape (g .header)) (g .lat) (g .lon) x y hx hy)
+      ∙ sym (none-beyond (shape (g .header)) (g .lat) (g .lon) (cellAt (shape (g .header)) x y) (node-not-beyond (g .lat) (g .lon) _ (i .sw) (j .sw)) (node-not-beyond (g .lat) (g .lon) _ (i .se) (j .se)) (node-not-beyond (g .lat) (g .lon) _ (i .nw) (j .nw)) (node-not-beyond (g .lat) (g .lon) _ (i .ne) (j .ne)))

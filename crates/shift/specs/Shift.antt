@@ -7,10 +7,10 @@ use lib.IntN.{ℤ, pos, _+ℤ_, _*ℤ_}
 use Rattle.laws.specs.Parts.{posPart}
 use Rattle.bilinear.specs.Axis.{cellOf}
 use Rattle.figures.specs.Outcome.{Outcome, answered, refusal, andThen, refuseIf}
+use Rattle.grid.specs.Grid.{Grid}
 use Rattle.grid.specs.Rules.{shape}
 use Rattle.grid.specs.Nodes.{node, outOfRange}
 use Rattle.grid.specs.Check.{layout}
-use Rattle.grid.specs.declared.Header.{Header}
 use Rattle.grid.specs.declared.Shape.{Shape}
 use Rattle.shift.specs.Round.{nearest}
 use Rattle.shift.specs.declared.Cell.{Cell}
@@ -83,8 +83,8 @@ unfoldable pub shiftOn : Shape → (lat lon : List ℤ) → (x y : ℕ) → Outc
 shiftOn s lat lon x y =
     refuseIf (ltb ((s .cols - 1) * s .dlon) x || ltb ((s .rows - 1) * s .dlat) y) 6 0 (shiftIn s lat lon (cellAt s x y))
 
-unfoldable pub shiftAt : Header → (lat lon : List ℤ) → (x y : ℕ) → Outcome Shift
-shiftAt h lat lon x y = andThen (layout h lat lon) (shiftOn (shape h) lat lon x y)
+unfoldable pub shiftAt : Grid → (x y : ℕ) → Outcome Shift
+shiftAt g x y = andThen (layout g) (shiftOn (shape (g .header)) (g .lat) (g .lon) x y)
 
 -- a shift in its range, raised so that it is a natural number: for the search of the way back, and for the theorems
 unfoldable pub raise : ℤ → ℕ

@@ -11,6 +11,7 @@ ghost use mathlib.Core.Path.{_≡_};
 ghost use mathlib.Core.Bool.{_||_};
 ghost use Prim.Native.Nat.{_+_, _*_, _≤_, _<_};
 ghost use lib.ListN.{length};
+ghost use Rattle.grid.specs.Grid.{gridOf};
 ghost use Rattle.grid.specs.Nodes.{beyondRange};
 ghost use Rattle.grid.specs.Needs.{Extent};
 ghost use Rattle.shift.specs.Shift.{outcome, cornersAt, shiftAt, shiftOn, shiftIn};
@@ -49,7 +50,7 @@ pub enum Interpolated {
 // The shift at the point `x` east and `y` north of the southwest corner. It looks at the header and at one cell, and refuses what
 // it finds there: 2, 5, 6 for a point past the edges, 3 for a corner. On a grid that passes the checks it answers at every point.
 pub fn shift_at<'a>(h: Header, lat: &'a [i64], lon: &'a [i64], x: usize, y: usize) -> Interpolated
-    ensures { λ r. ⌜ outcome r ≡ shiftAt h (now (lat .entry)) (now (lon .entry)) x y ⌝ }
+    ensures { λ r. ⌜ outcome r ≡ shiftAt (gridOf h (now (lat .entry)) (now (lon .entry))) x y ⌝ }
 {
     match grid::check_layout(h, lat, lon) {
         Checked::Refused(why) => Interpolated::Refused(why),

@@ -14,14 +14,15 @@ use Rattle.laws.specs.Logic.{eqZ, eqZ-holds}
 use Rattle.figures.specs.Outcome.{Outcome, answered, andThen, refuseIf}
 use Rattle.figures.proofs.Laws.{answer-not-refusal, both-answered, not-refused, same-answer}
 use Rattle.decimal.specs.Spelling.{spell}
+use Rattle.grid.specs.Grid.{header, Grid, gridOf}
 use Rattle.grid.specs.Rules.{brokenRule, shape, nodeCount}
 use Rattle.grid.specs.Nodes.{beyondRange}
 use Rattle.grid.specs.Check.{layout, steepness, Passes}
 use Rattle.grid.specs.declared.Header.{Header}
 use Rattle.grid.proofs.Passing.{laid}
-use Rattle.lines.specs.Text.{line, pairLine}
+use Rattle.lines.specs.Text.{newline, line, pairLine}
 use Rattle.grid_text.specs.Text.{headerText, nodeLine, nodeLines, gridText}
-use Rattle.grid_reader.specs.Reading.{Grid, word, field, newline, comma, nothing, header, ending, nodes, reading}
+use Rattle.grid_reader.specs.Reading.{word, field, comma, nothing, ending, nodes, reading}
 use Rattle.grid_reader.proofs.NodesSoFar.{NodesSoFar, no-node, one-node, left-to-judge}
 use Rattle.text_round_trip.proofs.Parsing.{fixed-there, word-there}
 
@@ -62,8 +63,8 @@ module _ {A : Type 0} {g : A} where
 -- ---- a grid
 
 pub record Accepted (text : List ℕ) (g : Grid) : Type 0 where
-  pub same : text ≡ gridText (g .header) (g .lat) (g .lon)
-  pub passes : Passes (g .header) (g .lat) (g .lon)
+  pub same : text ≡ gridText g
+  pub passes : Passes g
   pub lats : length (g .lat) ≡ nodeCount (g .header)
   pub lons : length (g .lon) ≡ nodeCount (g .header)
 
@@ -83,14 +84,14 @@ module _ (h : Header) where
   abbrev Rest : (k : ℕ) (xs ys : List ℤ) → List ℕ → Grid → Type 0
   Rest k xs ys t g =
       (g .header ≡ h) × (nodeLines xs ys k ++ t ≡ nodeLines (g .lat) (g .lon) (nodeCount h) ++ line (bytes "end=") (pos (nodeCount h)))
-      × Passes h (g .lat) (g .lon) × (length (g .lat) ≡ nodeCount h) × (length (g .lon) ≡ nodeCount h)
+      × Passes g × (length (g .lat) ≡ nodeCount h) × (length (g .lon) ≡ nodeCount h)
 
   module _ (unbroken : brokenRule h ≡ 0) where
     end-there : (xs ys : List ℤ) (t : List ℕ) (g : Grid) → NodesSoFar (nodeCount h) xs ys → ending h xs ys t ≡ answered g → Rest (nodeCount h) xs ys t g
     unfolding ending
     end-there xs ys t g s e =
         let n = nodeCount h in
-        let grid : Grid = record { header = h; lat = xs; lon = ys } in
+        let grid = gridOf h xs ys in
         let last = andThen (steepness (shape h) xs ys) (answered grid) in
         let f = line-there (9 + n) (bytes "end=") t (λ count u. refuseIf (not (eqZ count (pos n))) 1 (9 + n) (nothing (10 + n) u last)) e in
         let r = not-refused (not (eqZ (f .0) (pos n))) 1 (9 + n) (nothing (10 + n) (f .1) last) (f .3) in
@@ -147,8 +148,8 @@ whole h text rest g e r =
       same =
           e ∙ ap (λ (t : List ℕ). headerText h ++ t) (r .1)
           ∙ sym (append-assoc (headerText h) (nodeLines (g .lat) (g .lon) (nodeCount h)) (line (bytes "end=") (pos (nodeCount h))))
-          ∙ ap (λ (k : Header). gridText k (g .lat) (g .lon)) (sym (r .0));
-      passes = subst (λ (k : Header). Passes k (g .lat) (g .lon)) (sym (r .0)) (r .2);
+          ∙ ap (λ (k : Header). headerText k ++ nodeLines (g .lat) (g .lon) (nodeCount k) ++ line (bytes "end=") (pos (nodeCount k))) (sym (r .0));
+      passes = r .2;
       lats = r .3 ∙ ap nodeCount (sym (r .0));
       lons = r .4 ∙ ap nodeCount (sym (r .0));
     }
@@ -165,8 +166,8 @@ accepted text lat lon g e =
     let l₇ = line-there 7 (bytes "rows=") (l₆ .1) _ (l₆ .3) in
     let l₈ = line-there 8 (bytes "cols=") (l₇ .1) _ (l₇ .3) in
     let h = header (l₃ .0) (l₄ .0) (l₅ .0) (l₆ .0) (l₇ .0) (l₈ .0) in
-    let b = both-answered (layout h lat lon) (nodes h (nodeCount h) 0 [] [] (l₈ .1)) (l₈ .3) in
-    let r = nodes-there h (laid h lat lon (b .0 .1) .unbroken) (nodeCount h) 0 [] [] (l₈ .1) g (zero-left (nodeCount h)) no-node (b .1) in
+    let b = both-answered (layout (gridOf h lat lon)) (nodes h (nodeCount h) 0 [] [] (l₈ .1)) (l₈ .3) in
+    let r = nodes-there h (laid (gridOf h lat lon) (b .0 .1) .unbroken) (nodeCount h) 0 [] [] (l₈ .1) g (zero-left (nodeCount h)) no-node (b .1) in
     let t-is : text ≡ headerText h ++ (l₈ .1) =
     l₁ .1
     ∙ ap (λ (t : List ℕ). bytes "from=NAD27\n" ++ t)

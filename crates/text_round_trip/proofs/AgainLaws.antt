@@ -12,6 +12,7 @@ use Rattle.laws.specs.Bytes.{bytes}
 use Rattle.figures.specs.Outcome.{Outcome, answered, refused, andThen, mapAnswer}
 use Rattle.figures.proofs.Laws.{answer-not-refusal, same-answer, both-answered, refused-map, answered-map}
 use Rattle.laws.specs.Over.{over, length-over, over-take}
+use Rattle.grid.specs.Grid.{Grid, gridOf, trimmed}
 use Rattle.grid.specs.Rules.{nodeCount}
 use Rattle.grid.specs.Check.{layout, verdict, Passes}
 use Rattle.grid.specs.declared.Header.{Header}
@@ -22,7 +23,7 @@ use Rattle.lines.specs.Writing.{roomAfter, fitted}
 use Rattle.grid_text.specs.Text.{headerText, gridText}
 use Rattle.grid_text.specs.Writing.{writing}
 use Rattle.grid_text.proofs.Lengths.{text-length}
-use Rattle.grid_reader.specs.Reading.{Grid, headerOf, reading, latAfter, lonAfter}
+use Rattle.grid_reader.specs.Reading.{headerOf, reading, latAfter, lonAfter}
 use Rattle.text_round_trip.specs.Again.{scratch, textAgain, gridAgain, nodesAgain}
 use Rattle.text_round_trip.proofs.Accepted.{Accepted, accepted, lines-front}
 use Rattle.text_round_trip.proofs.ReadBack.{read-back}
@@ -44,7 +45,7 @@ module _ (text room : List ℕ) where
   text-refused e = (rw (refused-map headerOf (reading text scratch scratch) e), refl)
 
   -- the grid that was read stands at the front of two lists, and its text is the text that was read
-  again : (g : Grid) (z w : List ℤ) → Accepted text g → Passes (g .header) (over (g .lat) z) (over (g .lon) w) × (gridText (g .header) (over (g .lat) z) (over (g .lon) w) ≡ text)
+  again : (g : Grid) (z w : List ℤ) → Accepted text g → Passes (gridOf (g .header) (over (g .lat) z) (over (g .lon) w)) × (gridText (gridOf (g .header) (over (g .lat) z) (over (g .lon) w)) ≡ text)
   unfolding over gridText
   again g z w a =
       let h = g .header in
@@ -52,7 +53,7 @@ module _ (text room : List ℕ) where
       let y = over (g .lon) w in
       let p : take (nodeCount h) x ≡ g .lat = over-take (g .lat) z (nodeCount h) (a .lats) in
       let q : take (nodeCount h) y ≡ g .lon = over-take (g .lon) w (nodeCount h) (a .lons) in (
-        sym (verdict-front h x y) ∙ (λ i. verdict h (p i) (q i)) ∙ a .passes,
+        sym (verdict-front (gridOf h x y)) ∙ (λ i. verdict (gridOf h (p i) (q i))) ∙ a .passes,
         ap (λ (t : List ℕ). (headerText h ++ t) ++ line (bytes "end=") (pos (nodeCount h)))
             (lines-front (g .lat) (g .lon) (drop (length (g .lat)) z) (drop (length (g .lon)) w) (nodeCount h) (omega (arith, a .lats)) (omega (arith, a .lons)))
             ∙ sym (a .same),
@@ -60,7 +61,7 @@ module _ (text room : List ℕ) where
 
   module _ {h : Header} {lat lon : List ℤ} {o : Outcome ℕ} {after : List ℕ} (e : answered h ≡ mapAnswer headerOf (reading text scratch scratch))
       (p : lat ≡ latAfter (reading text scratch scratch) scratch) (q : lon ≡ lonAfter (reading text scratch scratch) scratch)
-      (w : o ≡ writing h lat lon room) (v : after ≡ roomAfter o (gridText h lat lon) room) where
+      (w : o ≡ writing (gridOf h lat lon) room) (v : after ≡ roomAfter o (gridText (gridOf h lat lon)) room) where
     pub text-again : (o ≡ textAgain text room) × (after ≡ roomAfter o text room)
     unfolding textAgain writing latAfter lonAfter
     text-again =
@@ -68,40 +69,40 @@ module _ (text room : List ℕ) where
         let x : lat ≡ over (r .0 .lat) scratch = p ∙ ap (λ (k : Outcome Grid). latAfter k scratch) (r .1) in
         let y : lon ≡ over (r .0 .lon) scratch = q ∙ ap (λ (k : Outcome Grid). lonAfter k scratch) (r .1) in
         let b = again (r .0) scratch scratch (accepted text scratch scratch (r .0) (r .1)) in (
-          w ∙ (λ i. writing (sym (r .2) i) (x i) (y i) room) ∙ rw (b .0, b .1, r .1),
-          v ∙ ap (λ (t : List ℕ). roomAfter o t room) ((λ i. gridText (sym (r .2) i) (x i) (y i)) ∙ b .1),
+          w ∙ (λ i. writing (gridOf (sym (r .2) i) (x i) (y i)) room) ∙ rw (b .0, b .1, r .1),
+          v ∙ ap (λ (t : List ℕ). roomAfter o t room) ((λ i. gridText (gridOf (sym (r .2) i) (x i) (y i))) ∙ b .1),
         )
 
 -- ---- a grid, written and read again
 
-module _ (h : Header) (lat lon : List ℤ) where
+module _ (g : Grid) where
   abbrev text : List ℕ
-  text = gridText h lat lon
+  text = gridText g
 
   -- a room of 48,000 bytes is enough
   module _ (room : List ℕ) (long : length room ≡ 48000) where
-    fits : Passes h lat lon → writing h lat lon room ≡ answered (length text)
+    fits : Passes g → writing g room ≡ answered (length text)
     unfolding writing fitted
-    fits p = rw (p, le-ltb (length room) (length text) (omega (arith, text-length h lat lon p)))
+    fits p = rw (p, le-ltb (length room) (length text) (omega (arith, text-length g p)))
 
-    written : {n : ℕ} → answered n ≡ writing h lat lon room → Passes h lat lon × (n ≡ length text)
+    written : {n : ℕ} → answered n ≡ writing g room → Passes g × (n ≡ length text)
     unfolding writing
     written e =
-        let p = both-answered (verdict h lat lon) (fitted (length text) (length room)) (sym e) .0 .1 in
+        let p = both-answered (verdict g) (fitted (length text) (length room)) (sym e) .0 .1 in
         (p, same-answer (e ∙ fits p))
 
-    pub grid-refused : {n k : ℕ} (lats lons : List ℤ) → refused n k ≡ writing h lat lon room
-        → (refused n k ≡ gridAgain h lat lon lats lons) × ((lats ≡ nodesAgain (refused n k) lat lats) × (lons ≡ nodesAgain (refused n k) lon lons))
+    pub grid-refused : {n k : ℕ} (lats lons : List ℤ) → refused n k ≡ writing g room
+        → (refused n k ≡ gridAgain g lats lons) × ((lats ≡ nodesAgain (refused n k) (g .lat) lats) × (lons ≡ nodesAgain (refused n k) (g .lon) lons))
     unfolding gridAgain nodesAgain writing
-    grid-refused {n} {k} lats lons e = (go (verdict h lat lon) refl e, (refl, refl))
+    grid-refused {n} {k} lats lons e = (go (verdict g) refl e, (refl, refl))
       where
-        go : (o : Outcome Unit) → verdict h lat lon ≡ o → refused n k ≡ writing h lat lon room → refused n k ≡ gridAgain h lat lon lats lons
+        go : (o : Outcome Unit) → verdict g ≡ o → refused n k ≡ writing g room → refused n k ≡ gridAgain g lats lons
         go (answered tt) q e = absurd (answer-not-refusal (sym (e ∙ fits q)))
         go (refused m j) q e = rw q (same-refusal (e ∙ rw q))
 
     -- what the reader is lent
-    module _ {n : ℕ} {after : List ℕ} {w : Outcome ℕ} (f : w ≡ answered n) (e : w ≡ writing h lat lon room) (v : after ≡ roomAfter w text room) where
-      wrote : Passes h lat lon × (n ≡ length text)
+    module _ {n : ℕ} {after : List ℕ} {w : Outcome ℕ} (f : w ≡ answered n) (e : w ≡ writing g room) (v : after ≡ roomAfter w text room) where
+      wrote : Passes g × (n ≡ length text)
       wrote = written (sym f ∙ e)
 
       stands : after ≡ over text room
@@ -109,7 +110,7 @@ module _ (h : Header) (lat lon : List ℤ) where
       stands = v ∙ ap (λ (k : Outcome ℕ). roomAfter k text room) f
 
       pub lent : n ≤ length after
-      lent = omega (arith, ap length stands, length-over text room (omega (arith, text-length h lat lon (wrote .0))), wrote .1, text-length h lat lon (wrote .0))
+      lent = omega (arith, ap length stands, length-over text room (omega (arith, text-length g (wrote .0))), wrote .1, text-length g (wrote .0))
 
       lent-text : take n after ≡ text
       lent-text = ap (take n) stands ∙ over-take text room n (sym (wrote .1))
@@ -117,30 +118,30 @@ module _ (h : Header) (lat lon : List ℤ) where
       pub grid-again : (lats lons : List ℤ) {r : Outcome Header} {lats′ lons′ : List ℤ}
           → r ≡ mapAnswer headerOf (reading (take n after) lats lons)
           → lats′ ≡ latAfter (reading (take n after) lats lons) lats → lons′ ≡ lonAfter (reading (take n after) lats lons) lons
-          → (r ≡ gridAgain h lat lon lats lons) × ((lats′ ≡ nodesAgain r lat lats) × (lons′ ≡ nodesAgain r lon lons))
+          → (r ≡ gridAgain g lats lons) × ((lats′ ≡ nodesAgain r (g .lat) lats) × (lons′ ≡ nodesAgain r (g .lon) lons))
       unfolding gridAgain nodesAgain latAfter lonAfter layout
-      grid-again lats lons {r} {lats′} {lons′} x y z = go (ltb (length lats) (nodeCount h) || ltb (length lons) (nodeCount h)) refl
+      grid-again lats lons {r} {lats′} {lons′} x y z = go (ltb (length lats) (nodeCount (g .header)) || ltb (length lons) (nodeCount (g .header))) refl
         where
-          p : Passes h lat lon
+          p : Passes g
           p = wrote .0
 
           o : Outcome Grid
           o = reading (take n after) lats lons
 
-          read : o ≡ andThen (layout h lats lons) (answered (record { header = h; lat = take (nodeCount h) lat; lon = take (nodeCount h) lon }))
-          read = ap (λ (t : List ℕ). reading t lats lons) lent-text ∙ read-back h lat lon p lats lons
+          read : o ≡ andThen (layout (gridOf (g .header) lats lons)) (answered (trimmed g))
+          read = ap (λ (t : List ℕ). reading t lats lons) lent-text ∙ read-back g p lats lons
 
-          go : (d : Bool) → (ltb (length lats) (nodeCount h) || ltb (length lons) (nodeCount h)) ≡ d
-              → (r ≡ gridAgain h lat lon lats lons) × ((lats′ ≡ nodesAgain r lat lats) × (lons′ ≡ nodesAgain r lon lons))
+          go : (d : Bool) → (ltb (length lats) (nodeCount (g .header)) || ltb (length lons) (nodeCount (g .header))) ≡ d
+              → (r ≡ gridAgain g lats lons) × ((lats′ ≡ nodesAgain r (g .lat) lats) × (lons′ ≡ nodesAgain r (g .lon) lons))
           go true q =
-              let f : o ≡ refused 5 (nodeCount h) = read ∙ rw (good h lat lon p .unbroken, q) in
-              let g : r ≡ refused 5 (nodeCount h) = x ∙ ap (mapAnswer headerOf) f in (
-                g ∙ rw (p, q),
-                (y ∙ ap (λ k. latAfter k lats) f ∙ ap (λ k. nodesAgain k lat lats) (sym g), z ∙ ap (λ k. lonAfter k lons) f ∙ ap (λ k. nodesAgain k lon lons) (sym g)),
+              let f : o ≡ refused 5 (nodeCount (g .header)) = read ∙ rw (good g p .unbroken, q) in
+              let s : r ≡ refused 5 (nodeCount (g .header)) = x ∙ ap (mapAnswer headerOf) f in (
+                s ∙ rw (p, q),
+                (y ∙ ap (λ k. latAfter k lats) f ∙ ap (λ k. nodesAgain k (g .lat) lats) (sym s), z ∙ ap (λ k. lonAfter k lons) f ∙ ap (λ k. nodesAgain k (g .lon) lons) (sym s)),
               )
           go false q =
-              let f : o ≡ answered (record { header = h; lat = take (nodeCount h) lat; lon = take (nodeCount h) lon }) = read ∙ rw (good h lat lon p .unbroken, q) in
-              let g : r ≡ answered h = x ∙ ap (mapAnswer headerOf) f in (
-                g ∙ rw (p, q),
-                (y ∙ ap (λ k. latAfter k lats) f ∙ ap (λ k. nodesAgain k lat lats) (sym g), z ∙ ap (λ k. lonAfter k lons) f ∙ ap (λ k. nodesAgain k lon lons) (sym g)),
+              let f : o ≡ answered (trimmed g) = read ∙ rw (good g p .unbroken, q) in
+              let s : r ≡ answered (g .header) = x ∙ ap (mapAnswer headerOf) f in (
+                s ∙ rw (p, q),
+                (y ∙ ap (λ k. latAfter k lats) f ∙ ap (λ k. nodesAgain k (g .lat) lats) (sym s), z ∙ ap (λ k. lonAfter k lons) f ∙ ap (λ k. nodesAgain k (g .lon) lons) (sym s)),
               )

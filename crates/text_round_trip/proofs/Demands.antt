@@ -3,32 +3,28 @@
 use Prim.Native.Nat.{ℕ, _≤_}
 use mathlib.Core.Path.{_≡_, sym, ap, _∙_, subst}
 use mathlib.Core.List.{List}
-use lib.ListN.{length, take}
+use lib.ListN.{length}
 use lib.IntN.{ℤ}
 use Rattle.figures.specs.Outcome.{Outcome, answered, andThen}
-use Rattle.grid.specs.Rules.{nodeCount}
+use Rattle.grid.specs.Grid.{Grid, trimmed}
 use Rattle.grid.specs.Check.{Passes}
-use Rattle.grid.specs.declared.Header.{Header}
 use Rattle.grid.proofs.Passing.{good}
 use Rattle.grid_text.specs.Text.{gridText}
 use Rattle.grid_text.proofs.Lengths.{text-length}
-use Rattle.grid_reader.specs.Reading.{Grid, reading}
+use Rattle.grid_reader.specs.Reading.{reading}
 use Rattle.text_round_trip.proofs.Accepted.{accepted}
 use Rattle.text_round_trip.proofs.ReadBack.{read-back}
 
 module _ (text : List ℕ) (lat lon : List ℤ) (g : Grid) (e : reading text lat lon ≡ answered g) where
-  pub text-returns : gridText (g .header) (g .lat) (g .lon) ≡ text
+  pub text-returns : gridText g ≡ text
   text-returns = sym (accepted text lat lon g e .same)
 
-  pub accepted-passes : Passes (g .header) (g .lat) (g .lon)
+  pub accepted-passes : Passes g
   accepted-passes = accepted text lat lon g e .passes
 
   pub at-most-48000 : length text ≤ 48000
-  at-most-48000 = subst (λ (t : List ℕ). length t ≤ 48000) text-returns (text-length (g .header) (g .lat) (g .lon) accepted-passes)
+  at-most-48000 = subst (λ (t : List ℕ). length t ≤ 48000) text-returns (text-length g accepted-passes)
 
 -- the first rows × cols elements of its slices are its nodes
-pub grid-returns : (h : Header) (lat lon : List ℤ) → Passes h lat lon
-    → reading (gridText h lat lon) lat lon ≡ answered (record { header = h; lat = take (nodeCount h) lat; lon = take (nodeCount h) lon })
-grid-returns h lat lon p =
-    read-back h lat lon p lat lon
-    ∙ ap (λ (o : Outcome Unit). andThen o (answered (record { header = h; lat = take (nodeCount h) lat; lon = take (nodeCount h) lon }))) (good h lat lon p .laid-out)
+pub grid-returns : (g : Grid) → Passes g → reading (gridText g) (g .lat) (g .lon) ≡ answered (trimmed g)
+grid-returns g p = read-back g p (g .lat) (g .lon) ∙ ap (λ (o : Outcome Unit). andThen o (answered (trimmed g))) (good g p .laid-out)

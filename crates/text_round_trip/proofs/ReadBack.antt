@@ -13,17 +13,17 @@ use Rattle.laws.specs.Bounds.{own-size, widen}
 use Rattle.laws.specs.Logic.{eqZ, eqZ-true}
 use Rattle.figures.specs.Outcome.{Outcome, answered, andThen, refuseIf}
 use Rattle.decimal.specs.Spelling.{spell, Short}
+use Rattle.grid.specs.Grid.{Grid, gridOf, trimmed}
 use Rattle.grid.specs.Rules.{minus, nodeCount, shape}
 use Rattle.grid.specs.Nodes.{node, beyondRange}
 use Rattle.grid.specs.Check.{layout, steepness, Passes}
-use Rattle.grid.specs.declared.Header.{Header}
 use Rattle.grid.proofs.RuleLaws.{Between, between-within, extent}
 use Rattle.grid.proofs.NodeLaws.{not-beyond}
 use Rattle.grid.proofs.Passing.{Good, good, laid, passes-steepness}
 use Rattle.grid.proofs.Front.{verdict-front}
-use Rattle.lines.specs.Text.{line}
+use Rattle.lines.specs.Text.{newline, line}
 use Rattle.grid_text.specs.Text.{headerText, nodeLine, nodeLines, gridText}
-use Rattle.grid_reader.specs.Reading.{Grid, word, field, newline, comma, nothing, header, ending, nodes, reading}
+use Rattle.grid_reader.specs.Reading.{word, field, comma, nothing, ending, nodes, reading}
 use Rattle.text_round_trip.proofs.Parsing.{fixed-here, word-here}
 use Rattle.text_round_trip.proofs.Accepted.{node-text, header-text}
 
@@ -53,69 +53,66 @@ module _ {A : Type 0} where
 
 -- ---- the nodes
 
-module _ (h : Header) (lat lon : List ℤ) (p : Passes h lat lon) where
+module _ (g : Grid) (p : Passes g) where
   abbrev n : ℕ
-  n = nodeCount h
+  n = nodeCount (g .header)
 
-  checked : Good h lat lon
-  checked = good h lat lon p
+  checked : Good g
+  checked = good g p
 
-  roomy : (n ≤ length lat) × (n ≤ length lon)
-  roomy = let l = laid h lat lon (checked .laid-out) in (l .room-lat, l .room-lon)
+  roomy : (n ≤ length (g .lat)) × (n ≤ length (g .lon))
+  roomy = let l = laid g (checked .laid-out) in (l .room-lat, l .room-lon)
 
   node-here : (left k : ℕ) (t : List ℕ) → k < n
-      → nodes h (suc left) k (take k lat) (take k lon) (nodeLine (node lat k) (node lon k) ++ t) ≡ nodes h left (suc k) (take (suc k) lat) (take (suc k) lon) t
+      → nodes (g .header) (suc left) k (take k (g .lat)) (take k (g .lon)) (nodeLine (node (g .lat) k) (node (g .lon) k) ++ t) ≡ nodes (g .header) left (suc k) (take (suc k) (g .lat)) (take (suc k) (g .lon)) t
   unfolding nodes
   node-here left k t l =
-      ap (λ (q : List ℕ). field (9 + k) comma (bytes "node=") q next) (sym (node-text (node lat k) (node lon k) t))
-      ∙ field-here (9 + k) comma (bytes "node=") (spell (node lon k) ++ (newline ∷ t)) (node lat k) next (within-short 6000000 of-lat (omega arith)) (omega arith)
-      ∙ word-here (9 + k) newline (λ b u. refuseIf (beyondRange (node lat k) || beyondRange b) 3 k (nodes h left (suc k) (take k lat ++ (node lat k ∷ [])) (take k lon ++ (b ∷ [])) u))
-      (node lon k) (within-short 6000000 of-lon (omega arith)) (omega arith) t
-      ∙ rw (not-beyond of-lat, not-beyond of-lon, take-suc lat k (pos 0) (omega (arith, roomy)), take-suc lon k (pos 0) (omega (arith, roomy)))
+      ap (λ (q : List ℕ). field (9 + k) comma (bytes "node=") q next) (sym (node-text (node (g .lat) k) (node (g .lon) k) t))
+      ∙ field-here (9 + k) comma (bytes "node=") (spell (node (g .lon) k) ++ (newline ∷ t)) (node (g .lat) k) next (within-short 6000000 of-lat (omega arith)) (omega arith)
+      ∙ word-here (9 + k) newline (λ b u. refuseIf (beyondRange (node (g .lat) k) || beyondRange b) 3 k (nodes (g .header) left (suc k) (take k (g .lat) ++ (node (g .lat) k ∷ [])) (take k (g .lon) ++ (b ∷ [])) u))
+      (node (g .lon) k) (within-short 6000000 of-lon (omega arith)) (omega arith) t
+      ∙ rw (not-beyond of-lat, not-beyond of-lon, take-suc (g .lat) k (pos 0) (omega (arith, roomy)), take-suc (g .lon) k (pos 0) (omega (arith, roomy)))
     where
-      of-lat : Within 6000000 (node lat k)
+      of-lat : Within 6000000 (node (g .lat) k)
       of-lat = checked .of-lat .ranged .range k l
 
-      of-lon : Within 6000000 (node lon k)
+      of-lon : Within 6000000 (node (g .lon) k)
       of-lon = checked .of-lon .ranged .range k l
 
       next : ℤ → List ℕ → Outcome Grid
-      next a u = word (9 + k) newline [] u (λ b v. refuseIf (beyondRange a || beyondRange b) 3 k (nodes h left (suc k) (take k lat ++ (a ∷ [])) (take k lon ++ (b ∷ [])) v))
+      next a u = word (9 + k) newline [] u (λ b v. refuseIf (beyondRange a || beyondRange b) 3 k (nodes (g .header) left (suc k) (take k (g .lat) ++ (a ∷ [])) (take k (g .lon) ++ (b ∷ [])) v))
 
-  nodes-here : (k left : ℕ) → k + left ≡ n → (t : List ℕ) → nodes h n 0 [] [] (nodeLines lat lon k ++ t) ≡ nodes h left k (take k lat) (take k lon) t
+  nodes-here : (k left : ℕ) → k + left ≡ n → (t : List ℕ) → nodes (g .header) n 0 [] [] (nodeLines (g .lat) (g .lon) k ++ t) ≡ nodes (g .header) left k (take k (g .lat)) (take k (g .lon)) t
   unfolding nodeLines
-  nodes-here zero left e t = ap (λ (j : ℕ). nodes h j 0 [] [] t) (omega arith)
+  nodes-here zero left e t = ap (λ (j : ℕ). nodes (g .header) j 0 [] [] t) (omega arith)
   nodes-here (suc k) left e t =
-      ap (nodes h n 0 [] []) (append-assoc (nodeLines lat lon k) (nodeLine (node lat k) (node lon k)) t)
-      ∙ nodes-here k (suc left) (omega arith) (nodeLine (node lat k) (node lon k) ++ t)
+      ap (nodes (g .header) n 0 [] []) (append-assoc (nodeLines (g .lat) (g .lon) k) (nodeLine (node (g .lat) k) (node (g .lon) k)) t)
+      ∙ nodes-here k (suc left) (omega arith) (nodeLine (node (g .lat) k) (node (g .lon) k) ++ t)
       ∙ node-here left k t (omega arith)
 
-  end-here : nodes h 0 n (take n lat) (take n lon) (line (bytes "end=") (pos n)) ≡ answered (record { header = h; lat = take n lat; lon = take n lon })
+  end-here : nodes (g .header) 0 n (take n (g .lat)) (take n (g .lon)) (line (bytes "end=") (pos n)) ≡ answered (trimmed g)
   unfolding nodes ending
   end-here =
       ap (λ (q : List ℕ). field (9 + n) newline (bytes "end=") q next) (sym (append-nil (line (bytes "end=") (pos n))))
       ∙ line-here (9 + n) (bytes "end=") [] (pos n) next (omega (arith, extent (checked .header) .nodes))
-      ∙ rw (eqZ-true {a = pos n} refl, passes-steepness h (take n lat) (take n lon) (verdict-front h lat lon ∙ p))
+      ∙ rw (eqZ-true {a = pos n} refl, passes-steepness (trimmed g) (verdict-front g ∙ p))
     where
-      grid : Grid
-      grid = record { header = h; lat = take n lat; lon = take n lon }
-
       next : ℤ → List ℕ → Outcome Grid
-      next count u = refuseIf (not (eqZ count (pos n))) 1 (9 + n) (nothing (10 + n) u (andThen (steepness (shape h) (take n lat) (take n lon)) (answered grid)))
+      next count u = refuseIf (not (eqZ count (pos n))) 1 (9 + n) (nothing (10 + n) u (andThen (steepness (shape (g .header)) (take n (g .lat)) (take n (g .lon))) (answered (trimmed g))))
 
   -- the text of the grid, read into any two slices: the grid, where they have room for its nodes
-  pub read-back : (lats lons : List ℤ) → reading (gridText h lat lon) lats lons ≡ andThen (layout h lats lons) (answered (record { header = h; lat = take n lat; lon = take n lon }))
+  pub read-back : (lats lons : List ℤ) → reading (gridText g) lats lons ≡ andThen (layout (gridOf (g .header) lats lons)) (answered (trimmed g))
   unfolding reading gridText
   read-back lats lons =
       let k = checked .header in
-      let t = nodeLines lat lon n ++ line (bytes "end=") (pos n) in
-      ap (λ (q : List ℕ). reading q lats lons) (append-assoc (headerText h) (nodeLines lat lon n) (line (bytes "end=") (pos n)) ∙ sym (header-text h t))
+      let t = nodeLines (g .lat) (g .lon) n ++ line (bytes "end=") (pos n) in
+      ap (λ (q : List ℕ). reading q lats lons) (append-assoc (headerText (g .header)) (nodeLines (g .lat) (g .lon) n) (line (bytes "end=") (pos n)) ∙ sym (header-text (g .header) t))
       ∙ fixed-here 1 (bytes "from=NAD27\n") _ _
       ∙ fixed-here 2 (bytes "to=NAD83\n") _ _
-      ∙ line-here 3 (bytes "south=") _ (h .south .0) _ (between-short 323940000 (k .south) (own-size (minus 323940000)) (own-size (pos 323940000)) (omega arith))
-      ∙ line-here 4 (bytes "west=") _ (h .west .0) _ (between-short 647940000 (k .west) (own-size (minus 647940000)) (own-size (pos 647940000)) (omega arith))
-      ∙ line-here 5 (bytes "dlat=") _ (h .dlat) _ (between-short 900000 (k .dlat) (widen (own-size (pos 1000)) tt) (own-size (pos 900000)) (omega arith))
-      ∙ line-here 6 (bytes "dlon=") _ (h .dlon) _ (between-short 900000 (k .dlon) (widen (own-size (pos 1000)) tt) (own-size (pos 900000)) (omega arith))
-      ∙ line-here 7 (bytes "rows=") _ (h .rows) _ (between-short 256 (k .rows) (widen (own-size (pos 2)) tt) (own-size (pos 256)) (omega arith))
-      ∙ line-here 8 (bytes "cols=") t (h .cols) _ (between-short 256 (k .cols) (widen (own-size (pos 2)) tt) (own-size (pos 256)) (omega arith))
-      ∙ ap (andThen (layout h lats lons)) (nodes-here n 0 (omega arith) (line (bytes "end=") (pos n)) ∙ end-here)
+      ∙ line-here 3 (bytes "south=") _ (g .header .south .0) _ (between-short 323940000 (k .south) (own-size (minus 323940000)) (own-size (pos 323940000)) (omega arith))
+      ∙ line-here 4 (bytes "west=") _ (g .header .west .0) _ (between-short 647940000 (k .west) (own-size (minus 647940000)) (own-size (pos 647940000)) (omega arith))
+      ∙ line-here 5 (bytes "dlat=") _ (g .header .dlat) _ (between-short 900000 (k .dlat) (widen (own-size (pos 1000)) tt) (own-size (pos 900000)) (omega arith))
+      ∙ line-here 6 (bytes "dlon=") _ (g .header .dlon) _ (between-short 900000 (k .dlon) (widen (own-size (pos 1000)) tt) (own-size (pos 900000)) (omega arith))
+      ∙ line-here 7 (bytes "rows=") _ (g .header .rows) _ (between-short 256 (k .rows) (widen (own-size (pos 2)) tt) (own-size (pos 256)) (omega arith))
+      ∙ line-here 8 (bytes "cols=") t (g .header .cols) _ (between-short 256 (k .cols) (widen (own-size (pos 2)) tt) (own-size (pos 256)) (omega arith))
+      ∙ ap (andThen (layout (gridOf (g .header) lats lons))) (nodes-here n 0 (omega arith) (line (bytes "end=") (pos n)) ∙ end-here)

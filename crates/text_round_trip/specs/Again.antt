@@ -9,6 +9,7 @@ use lib.IntN.{ℤ, pos}
 use Rattle.figures.specs.Outcome.{Outcome, answered, refused, andThen, refuseIf}
 use Rattle.laws.specs.Over.{over}
 use Rattle.lines.specs.Writing.{fitted}
+use Rattle.grid.specs.Grid.{Grid}
 use Rattle.grid.specs.Rules.{nodeCount}
 use Rattle.grid.specs.Check.{verdict}
 use Rattle.grid.specs.declared.Header.{Header}
@@ -24,10 +25,10 @@ textAgain text room =
     andThen (reading text scratch scratch) (fitted (length text) (length room))
 
 -- a grid that is refused is refused alike; one that passes comes back, where there is room for its nodes
-unfoldable pub gridAgain : Header → (lat lon latRoom lonRoom : List ℤ) → Outcome Header
-gridAgain h lat lon latRoom lonRoom =
-    let n = nodeCount h in
-    andThen (verdict h lat lon) (refuseIf (ltb (length latRoom) n || ltb (length lonRoom) n) 5 n (answered h))
+unfoldable pub gridAgain : Grid → (latRoom lonRoom : List ℤ) → Outcome Header
+gridAgain g latRoom lonRoom =
+    let n = nodeCount (g .header) in
+    andThen (verdict g) (refuseIf (ltb (length latRoom) n || ltb (length lonRoom) n) 5 n (answered (g .header)))
 
 -- the same nodes stand at the front of a slice, or after a refusal what it held
 unfoldable pub nodesAgain : Outcome Header → (nodes slice : List ℤ) → List ℤ

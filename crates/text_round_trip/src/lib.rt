@@ -4,6 +4,7 @@ use grid_reader::GridRead;
 use lines::Written;
 ghost use mathlib.Core.Path.{_≡_};
 ghost use Rattle.lines.specs.Writing.{outcome, roomAfter};
+ghost use Rattle.grid.specs.Grid.{gridOf};
 ghost use Rattle.grid_reader.specs.Reading.{outcome as read-outcome};
 ghost use Rattle.text_round_trip.specs.Again.{textAgain, gridAgain, nodesAgain};
 
@@ -28,7 +29,7 @@ pub fn write_and_read<'a>(
     lats: &mut [i64],
     lons: &mut [i64],
 ) -> GridRead
-    ensures answer { λ r. ⌜ read-outcome r ≡ gridAgain h (now (lat .entry)) (now (lon .entry)) (now (lats .entry)) (now (lons .entry)) ⌝ }
+    ensures answer { λ r. ⌜ read-outcome r ≡ gridAgain (gridOf h (now (lat .entry)) (now (lon .entry))) (now (lats .entry)) (now (lons .entry)) ⌝ }
     ensures lat { λ r. ⌜ now (lats .exit) ≡ nodesAgain (read-outcome r) (now (lat .entry)) (now (lats .entry)) ⌝ }
     ensures lon { λ r. ⌜ now (lons .exit) ≡ nodesAgain (read-outcome r) (now (lon .entry)) (now (lons .entry)) ⌝ }
 {

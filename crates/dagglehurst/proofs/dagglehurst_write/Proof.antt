@@ -3,7 +3,7 @@ use mathlib.Core.Path.{ap, _∙_}
 use Rattle.lines.specs.Writing.{roomAfter}
 use Rattle.grid_text.specs.Text.{gridText}
 use Rattle.dagglehurst.specs.Reply.{reply}
-use Rattle.dagglehurst.specs.Header.{headerIn}
+use Rattle.dagglehurst.specs.Header.{gridIn}
 use Rattle.dagglehurst.proofs.dagglehurst_write.Statement.{statement}
 use Rattle.dagglehurst.proofs.dagglehurst_write.Tie as tie
 
@@ -23,7 +23,7 @@ returns : tie.Need-returns
 returns c =
     let a = c .before .before .before .before .before .before .before .args in
     let e = rw (c .before .before .before .before .before .header-in .ensures) at (c .before .before .before .write .ensures) in
-    (c .written .ensures ∙ ap reply (e .0), e .1 ∙ ap (λ o. roomAfter o (gridText (headerIn (a .header .now)) (a .lat .now) (a .lon .now)) (a .room .now)) (e .0))
+    (c .written .ensures ∙ ap reply (e .0), e .1 ∙ ap (λ o. roomAfter o (gridText (gridIn (a .header .now) (a .lat .now) (a .lon .now))) (a .room .now)) (e .0))
 
 pub dagglehurst-write-spec : {M : Type 1} → statement M
 dagglehurst-write-spec =

@@ -1,5 +1,6 @@
 use borrow.Author.Needs.{needs}
 use mathlib.Core.Path.{sym, ap, _∙_}
+use Rattle.grid.specs.Grid.{gridOf}
 use Rattle.grid.specs.Check.{outcome, nodesVerdict}
 use Rattle.grid.specs.declared.Shape.{Shape}
 use Rattle.grid.proofs.RuleLaws.{extent}
@@ -23,11 +24,11 @@ check-nodes-requires : tie.Need-check-nodes-requires
 check-nodes-requires c κs =
     let l = c .before .before .before in
     let e = sym (l .check-layout .ensures) ∙ ap outcome (c .before .enum-told .given .1) in
-    rw (c .shape .ensures) (extent (laid _ _ _ e .header))
+    rw (c .shape .ensures) (extent (laid _ e .header))
 
 returns : tie.Need-returns
 returns c =
-    layout-refused _ _ _ (ap outcome (sym (c .before .why .given .1)) ∙ c .before .before .before .check-layout .ensures)
+    layout-refused _ (ap outcome (sym (c .before .why .given .1)) ∙ c .before .before .before .check-layout .ensures)
 
 returns-2 : tie.Need-returns-2
 returns-2 c =
@@ -36,7 +37,7 @@ returns-2 c =
     let a = l .before .args in
     c .check-nodes .ensures
     ∙ ap (λ (s : Shape). nodesVerdict s (a .lat .now) (a .lon .now)) (z .shape .ensures)
-    ∙ layout-passes (a .h) (a .lat .now) (a .lon .now) (ap outcome (sym (z .before .enum-told .given .1)) ∙ l .check-layout .ensures)
+    ∙ layout-passes (gridOf (a .h) (a .lat .now) (a .lon .now)) (ap outcome (sym (z .before .enum-told .given .1)) ∙ l .check-layout .ensures)
 
 pub check-spec : {M : Type 1} → statement M
 check-spec =

@@ -3,6 +3,7 @@ use native.Mathlib.Omega.{arith}
 use mathlib.Core.Path.{_≡_, sym, ap, _∙_}
 use Prim.Native.Nat.{_*_}
 use Rattle.figures.specs.Outcome.{refused}
+use Rattle.grid.specs.Grid.{Grid, gridOf}
 use Rattle.grid.specs.Rules.{brokenRule, shape}
 use Rattle.grid.specs.Needs.{Extent}
 use Rattle.grid.specs.declared.Shape.{Shape}
@@ -20,6 +21,9 @@ module _ (c : lts.After-shape (broken-rule-reads.Asked, broken-rule-reads.Learnt
   unbroken : brokenRule (c .before .before .before .args .h) ≡ 0
   unbroken = sym (c .before .before .broken-rule .ensures) ∙ c .before .if1 .left
 
+  abbrev whole : Grid
+  whole = let a = c .before .before .before .args in gridOf (a .h) (a .lat .now) (a .lon .now)
+
   sizes : Extent (c .shape .result)
   sizes = rw (c .shape .ensures) (extent (rules-hold _ unbroken))
 
@@ -30,7 +34,7 @@ broken-rule-requires : tie.Need-broken-rule-requires
 broken-rule-requires c κs = search needs
 
 returns : tie.Need-returns
-returns c = rule-broken _ _ _ (c .before .broken-rule .ensures) (c .if1 .taken)
+returns c = rule-broken _ (c .before .broken-rule .ensures) (c .if1 .taken)
 
 shape-requires : tie.Need-shape-requires
 shape-requires c κs = search needs
@@ -41,17 +45,17 @@ mul-n c = omega (arith, sizes (c .before))
 returns-2 : tie.Need-returns-2
 returns-2 c =
     let s = c .before .before in
-    ap (refused 5) (n-is s) ∙ short-lat _ _ (s .before .before .before .args .lon .now) (unbroken s) (omega (arith, n-is s, c .if2 .taken))
+    ap (refused 5) (n-is s) ∙ short-lat (whole s) (unbroken s) (omega (arith, n-is s, c .if2 .taken))
 
 returns-3 : tie.Need-returns-3
 returns-3 c =
     let s = c .before .before .before in
-    ap (refused 5) (n-is s) ∙ short-lon _ _ _ (unbroken s) (omega (arith, n-is s, c .before .if2 .left)) (omega (arith, n-is s, c .if3 .taken))
+    ap (refused 5) (n-is s) ∙ short-lon (whole s) (unbroken s) (omega (arith, n-is s, c .before .if2 .left)) (omega (arith, n-is s, c .if3 .taken))
 
 returns-4 : tie.Need-returns-4
 returns-4 c =
     let s = c .before .before .before in
-    room _ _ _ (unbroken s) (omega (arith, n-is s, c .before .if2 .left)) (omega (arith, n-is s, c .if3 .left))
+    room (whole s) (unbroken s) (omega (arith, n-is s, c .before .if2 .left)) (omega (arith, n-is s, c .if3 .left))
 
 pub check-layout-spec : {M : Type 1} → statement M
 check-layout-spec =

@@ -1,5 +1,6 @@
 use borrow.Author.Needs.{needs}
 use mathlib.Core.Path.{sym, ap, _∙_}
+use Rattle.grid.specs.Grid.{gridOf}
 use Rattle.grid.specs.Check.{outcome}
 use Rattle.grid_text.proofs.Answers.{checks-refuse, checks-pass, ready}
 use Rattle.grid_text.proofs.write.Statement.{statement}
@@ -15,13 +16,13 @@ enum-told : tie.Need-enum-told
 enum-told c = search needs
 
 write-checked-requires : tie.Need-write-checked-requires
-write-checked-requires c κs = ready _ _ _ (sym (c .before .before .before .check .ensures) ∙ ap outcome (c .before .enum-told .given .1))
+write-checked-requires c κs = ready _ (sym (c .before .before .before .check .ensures) ∙ ap outcome (c .before .enum-told .given .1))
 
 returns : tie.Need-returns
 returns c =
     let a = c .before .before .before .before .before .args in
     let e = ap outcome (sym (c .before .why .given .1)) ∙ c .before .before .before .check .ensures in
-    checks-refuse (a .h) (a .lat .now) (a .lon .now) (a .room .now) e
+    checks-refuse (gridOf (a .h) (a .lat .now) (a .lon .now)) (a .room .now) e
 
 same-length : tie.Need-same-length
 same-length c = search needs
@@ -31,7 +32,7 @@ returns-2 c =
     let w = c .before .before in
     let a = w .before .before .before .before .before .before .args in
     let e = sym (w .before .before .before .before .check .ensures) ∙ ap outcome (w .before .before .enum-told .given .1) in
-    (checks-pass (a .h) (a .lat .now) (a .lon .now) (a .room .now) e (w .write-checked .ensures .0), w .write-checked .ensures .1)
+    (checks-pass (gridOf (a .h) (a .lat .now) (a .lon .now)) (a .room .now) e (w .write-checked .ensures .0), w .write-checked .ensures .1)
 
 pub write-spec : {M : Type 1} → statement M
 write-spec =

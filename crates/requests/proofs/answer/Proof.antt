@@ -1,5 +1,6 @@
 use borrow.Author.Needs.{needs}
 use mathlib.Core.Path.{sym, ap, _∙_}
+use Rattle.grid.specs.Grid.{gridOf}
 use Rattle.requests.specs.Replies.{said83, said27, checkedOnce, answerTo}
 use Rattle.requests.proofs.answer.Statement.{statement}
 use Rattle.requests.proofs.answer.Tie as tie
@@ -25,12 +26,12 @@ say27-requires c κs = search needs
 returns : tie.Need-returns
 returns c =
     let a = c .before .before .before .before .before .args in
-    c .say83 .ensures ∙ ap said83 (c .before .forward .ensures .0) ∙ ap (answerTo (checkedOnce (a .h) (a .lat .now) (a .lon .now))) (sym (c .before .before .before .q .given .1))
+    c .say83 .ensures ∙ ap said83 (c .before .forward .ensures .0) ∙ ap (answerTo (checkedOnce (gridOf (a .h) (a .lat .now) (a .lon .now)))) (sym (c .before .before .before .q .given .1))
 
 returns-2 : tie.Need-returns-2
 returns-2 c =
     let a = c .before .before .before .before .before .args in
-    c .say27 .ensures ∙ ap said27 (c .before .inverse .ensures .0) ∙ ap (answerTo (checkedOnce (a .h) (a .lat .now) (a .lon .now))) (sym (c .before .before .before .q2 .given .1))
+    c .say27 .ensures ∙ ap said27 (c .before .inverse .ensures .0) ∙ ap (answerTo (checkedOnce (gridOf (a .h) (a .lat .now) (a .lon .now)))) (sym (c .before .before .before .q2 .given .1))
 
 pub answer-spec : {M : Type 1} → statement M
 answer-spec =

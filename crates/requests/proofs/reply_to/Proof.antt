@@ -1,5 +1,6 @@
 use borrow.Author.Needs.{needs}
 use mathlib.Core.Path.{sym, ap, _∙_}
+use Rattle.grid.specs.Grid.{gridOf}
 use Rattle.requests.specs.Replies.{checkedOnce, replyTo}
 use Rattle.requests.proofs.reply_to.Statement.{statement}
 use Rattle.requests.proofs.reply_to.Tie as tie
@@ -19,12 +20,12 @@ answer-requires c κs = search needs
 returns : tie.Need-returns
 returns c =
     let a = c .before .before .before .before .args in
-    ap (replyTo (checkedOnce (a .h) (a .lat .now) (a .lon .now))) (sym (c .enum-told .given .1) ∙ c .before .before .read-request .ensures)
+    ap (replyTo (checkedOnce (gridOf (a .h) (a .lat .now) (a .lon .now)))) (sym (c .enum-told .given .1) ∙ c .before .before .read-request .ensures)
 
 returns-2 : tie.Need-returns-2
 returns-2 c =
     let a = c .before .before .before .before .before .before .args in
-    c .answer .ensures ∙ ap (replyTo (checkedOnce (a .h) (a .lat .now) (a .lon .now))) (sym (c .before .before .q .given .1) ∙ c .before .before .before .before .read-request .ensures)
+    c .answer .ensures ∙ ap (replyTo (checkedOnce (gridOf (a .h) (a .lat .now) (a .lon .now)))) (sym (c .before .before .q .given .1) ∙ c .before .before .before .before .read-request .ensures)
 
 pub reply-to-spec : {M : Type 1} → statement M
 reply-to-spec =

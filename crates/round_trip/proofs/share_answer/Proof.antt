@@ -1,3 +1,4 @@
+use Rattle.grid.specs.Grid.{gridOf}
 use Rattle.round_trip.proofs.Laws.{first-refused, second-refused, answers-compared}
 use Rattle.convert.specs.Convert.{outcome83}
 use mathlib.Core.Path.{sym, ap, _∙_}
@@ -27,17 +28,17 @@ same-requires : tie.Need-same-requires
 same-requires c κs = search needs
 
 returns : tie.Need-returns
-returns c = let a = c .before .before .before .args in first-refused (a .h) (a .lat .now) (a .lon .now) (a .p) (a .q) (ap outcome83 (sym (c .enum-told .given .1)) ∙ c .before .before .to83 .ensures)
+returns c = let a = c .before .before .before .args in first-refused (gridOf (a .h) (a .lat .now) (a .lon .now)) (a .p) (a .q) (ap outcome83 (sym (c .enum-told .given .1)) ∙ c .before .before .to83 .ensures)
 
 returns-2 : tie.Need-returns-2
 returns-2 c =
     let a = c .before .before .before .before .before .before .before .args in
-    second-refused (a .h) (a .lat .now) (a .lon .now) (a .p) (a .q) (ap outcome83 (sym (c .before .before .before .before .f .given .1)) ∙ c .before .before .before .before .before .before .to83 .ensures) (ap outcome83 (sym (c .enum-told2 .given .1)) ∙ c .before .before .to832 .ensures)
+    second-refused (gridOf (a .h) (a .lat .now) (a .lon .now)) (a .p) (a .q) (ap outcome83 (sym (c .before .before .before .before .f .given .1)) ∙ c .before .before .before .before .before .before .to83 .ensures) (ap outcome83 (sym (c .enum-told2 .given .1)) ∙ c .before .before .to832 .ensures)
 
 returns-3 : tie.Need-returns-3
 returns-3 c =
     let a = c .before .before .before .before .before .before .before .before .before .args in
-    c .same .ensures ∙ answers-compared (a .h) (a .lat .now) (a .lon .now) (a .p) (a .q) (ap outcome83 (sym (c .before .before .before .before .before .before .f .given .1)) ∙ c .before .before .before .before .before .before .before .before .to83 .ensures) (ap outcome83 (sym (c .before .before .g .given .1)) ∙ c .before .before .before .before .to832 .ensures)
+    c .same .ensures ∙ answers-compared (gridOf (a .h) (a .lat .now) (a .lon .now)) (a .p) (a .q) (ap outcome83 (sym (c .before .before .before .before .before .before .f .given .1)) ∙ c .before .before .before .before .before .before .before .before .to83 .ensures) (ap outcome83 (sym (c .before .before .g .given .1)) ∙ c .before .before .before .before .to832 .ensures)
 
 pub share-answer-spec : {M : Type 1} → statement M
 share-answer-spec =

@@ -1,4 +1,5 @@
 use mathlib.Core.Path.{sym, ap, _∙_}
+use Rattle.grid.specs.Grid.{gridOf}
 use Rattle.grid.specs.Check.{outcome as layoutOutcome}
 use Rattle.grid.specs.declared.Shape.{Shape}
 use Rattle.grid.proofs.RuleLaws.{extent}
@@ -25,11 +26,11 @@ shift-on-requires : tie.Need-shift-on-requires
 shift-on-requires c κs =
     let l = c .before .before .before in
     let e = sym (l .check-layout .ensures) ∙ ap layoutOutcome (c .before .enum-told .given .1) in
-    let d = laid _ _ _ e in
+    let d = laid _ e in
     rw (c .shape .ensures) (extent (d .header), (d .room-lat, d .room-lon))
 
 returns : tie.Need-returns
-returns c = layout-refused _ _ _ _ _ (ap layoutOutcome (sym (c .before .why .given .1)) ∙ c .before .before .before .check-layout .ensures)
+returns c = layout-refused _ _ _ (ap layoutOutcome (sym (c .before .why .given .1)) ∙ c .before .before .before .check-layout .ensures)
 
 returns-2 : tie.Need-returns-2
 returns-2 c =
@@ -38,7 +39,7 @@ returns-2 c =
     let a = l .before .args in
     c .shift-on .ensures
     ∙ ap (λ (s : Shape). shiftOn s (a .lat .now) (a .lon .now) (a .x) (a .y)) (z .shape .ensures)
-    ∙ layout-passes (a .h) (a .lat .now) (a .lon .now) (a .x) (a .y) (ap layoutOutcome (sym (z .before .enum-told .given .1)) ∙ l .check-layout .ensures)
+    ∙ layout-passes (gridOf (a .h) (a .lat .now) (a .lon .now)) (a .x) (a .y) (ap layoutOutcome (sym (z .before .enum-told .given .1)) ∙ l .check-layout .ensures)
 
 pub shift-at-spec : {M : Type 1} → statement M
 shift-at-spec =

@@ -25,7 +25,7 @@ enum-known-n : tie.Need-enum-known-n
 enum-known-n c = search needs
 
 array-share-prefix-text : tie.Need-array-share-prefix-text
-array-share-prefix-text c = lent _ _ _ _ zeros (ap outcome (c .before .n .given .1)) (c .before .before .before .before .write .ensures .0) (c .before .before .before .before .write .ensures .1)
+array-share-prefix-text c = lent _ _ zeros (ap outcome (c .before .n .given .1)) (c .before .before .before .before .write .ensures .0) (c .before .before .before .before .write .ensures .1)
 
 slice-aggregate-read : tie.Need-slice-aggregate-read
 slice-aggregate-read c = sym (length-take-le _ _ (array-share-prefix-text (c .before)))
@@ -34,7 +34,7 @@ read-requires : tie.Need-read-requires
 read-requires c κs = search needs
 
 returns : tie.Need-returns
-returns c = grid-refused _ _ _ _ zeros _ _ (sym (ap outcome (c .before .why .given .1)) ∙ c .before .before .before .before .write .ensures .0)
+returns c = grid-refused _ _ zeros _ _ (sym (ap outcome (c .before .why .given .1)) ∙ c .before .before .before .before .write .ensures .0)
 
 same-length : tie.Need-same-length
 same-length c = search needs
@@ -43,7 +43,7 @@ same-length-2 : tie.Need-same-length-2
 same-length-2 c = search needs
 
 returns-2 : tie.Need-returns-2
-returns-2 c = let w = c .before .before .before .before .before .before .before .before .before .before in grid-again _ _ _ _ zeros (ap outcome (c .before .before .before .before .before .before .before .n .given .1)) (w .write .ensures .0) (w .write .ensures .1) _ _ (c .before .before .read .ensures .0) (c .before .before .read .ensures .1 .0) (c .before .before .read .ensures .1 .1)
+returns-2 c = let w = c .before .before .before .before .before .before .before .before .before .before in grid-again _ _ zeros (ap outcome (c .before .before .before .before .before .before .before .n .given .1)) (w .write .ensures .0) (w .write .ensures .1) _ _ (c .before .before .read .ensures .0) (c .before .before .read .ensures .1 .0) (c .before .before .read .ensures .1 .1)
 
 pub write-and-read-spec : {M : Type 1} → statement M
 write-and-read-spec =

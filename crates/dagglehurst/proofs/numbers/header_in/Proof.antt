@@ -1,5 +1,5 @@
 use borrow.Author.Needs.{needs}
-use Rattle.grid_reader.specs.Reading.{header}
+use Rattle.grid.specs.Grid.{header}
 use Rattle.dagglehurst.specs.Header.{headerIn}
 use Rattle.laws.specs.Tests.{told}
 use Rattle.dagglehurst.proofs.numbers.header_in.Statement.{statement}

@@ -2,7 +2,7 @@ use borrow.Author.Needs.{needs}
 use mir.Syntax.{w64}
 use mir.Val.{SFits}
 use mir.Facts.{toZ-ofZ}
-use mathlib.Core.Path.{refl, sym, ap, _∙_}
+use mathlib.Core.Path.{refl}
 use Rattle.dagglehurst.specs.Points.{fitted, pairAfter}
 use Rattle.dagglehurst.proofs.Laws.{front-two, pair-short, pair-fits}
 use Rattle.dagglehurst.proofs.numbers.put_answer.Statement.{statement}

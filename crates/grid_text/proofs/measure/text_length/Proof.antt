@@ -1,6 +1,7 @@
 use borrow.Author.Needs.{needs}
 use native.Mathlib.Omega.{arith}
 use Rattle.decimal.proofs.Signs.{read-pos}
+use Rattle.grid.specs.Grid.{gridOf}
 use Rattle.grid_text.proofs.Lengths.{length-grid}
 use Rattle.grid_text.proofs.measure.text_length.Statement.{statement}
 use Rattle.grid_text.proofs.measure.text_length.Tie as tie
@@ -35,7 +36,7 @@ returns c =
     let n = c .before .before .before .before .node-count in
     let q = rw (n .ensures .0) at (c .before .before .nodes-length .ensures) in
     let r = rw (read-pos (n .result) (omega (arith, n .ensures)), n .ensures .0) at (c .line-length .ensures) in
-    omega (arith, c .before .before .before .header-length .ensures, q, r, length-grid (a .h) (a .lat .now) (a .lon .now))
+    omega (arith, c .before .before .before .header-length .ensures, q, r, length-grid (gridOf (a .h) (a .lat .now) (a .lon .now)))
 
 pub text-length-spec : {M : Type 1} → statement M
 text-length-spec =

@@ -5,6 +5,7 @@ use Rattle.laws.specs.Bytes.{bytes}
 use Rattle.decimal.proofs.Over.{Progress, Next, first-part, part-start, part-room, part-place, part-end, next-part, part-behind, all-parts}
 use Rattle.decimal.proofs.Signs.{read-pos}
 use Rattle.lines.specs.Text.{line}
+use Rattle.grid.specs.Grid.{gridOf}
 use Rattle.grid_text.specs.Text.{nodeLines, gridText}
 use Rattle.grid_text.proofs.Joins.{grid-joins}
 use Rattle.grid_text.proofs.Lengths.{length-grid}
@@ -14,12 +15,12 @@ use Rattle.grid_text.proofs.parts.put_grid.Statement.{statement}
 use Rattle.grid_text.proofs.parts.put_grid.Tie as tie
 
 -- the parts, of the number of nodes as the machine has it
-abbrev header-done : (c : tie.After-slice-known2) → let a = c .before .before .before .before .before .before .args in let n = c .before .before .before .before .node-count .result in Progress (gridText (a .h) (a .lat .now) (a .lon .now)) (a .room .now) (nodeLines (a .lat .now) (a .lon .now) n ∷ line (bytes "end=") (toZ w64 n) ∷ [])
+abbrev header-done : (c : tie.After-slice-known2) → let a = c .before .before .before .before .before .before .args in let n = c .before .before .before .before .node-count .result in Progress (gridText (gridOf (a .h) (a .lat .now) (a .lon .now))) (a .room .now) (nodeLines (a .lat .now) (a .lon .now) n ∷ line (bytes "end=") (toZ w64 n) ∷ [])
 header-done c =
     let s = c .before .before .before .before .before .before in
     let n = c .before .before .before .before .node-count in
     let e = read-pos (n .result) (omega (arith, n .ensures)) in
-    first-part (c .before .before .put-header .ensures) (rw (e, n .ensures .0) (grid-joins (s .args .h) (s .args .lat .now) (s .args .lon .now))) (s .pre .1)
+    first-part (c .before .before .put-header .ensures) (rw (e, n .ensures .0) (grid-joins (gridOf (s .args .h) (s .args .lat .now) (s .args .lon .now)))) (s .pre .1)
 
 abbrev nodes-done : (c : tie.After-slice-known3) → Next (header-done (c .before .before .before .before))
 nodes-done c = next-part (header-done (c .before .before .before .before)) (c .before .before .put-nodes .ensures)
@@ -28,7 +29,7 @@ node-count-requires : tie.Need-node-count-requires
 node-count-requires c κs = search needs
 
 put-header-requires : tie.Need-put-header-requires
-put-header-requires c κs = let a = c .before .before .before .args in omega (arith, length-grid (a .h) (a .lat .now) (a .lon .now))
+put-header-requires c κs = let a = c .before .before .before .args in omega (arith, length-grid (gridOf (a .h) (a .lat .now) (a .lon .now)))
 
 sub-put-nodes : tie.Need-sub-put-nodes
 sub-put-nodes c = part-start (header-done c)

@@ -3,15 +3,16 @@ use native.Mathlib.Omega.{arith}
 use mathlib.Core.List.{[], _∷_}
 use mir.Facts.{toZ-ofZ}
 use lib.ListN.{length-append}
+use Rattle.laws.specs.Bytes.{bytes}
 use Rattle.decimal.specs.Spelling.{spell}
 use Rattle.decimal.proofs.Over.{Progress, first-part, byte-place, next-byte, all-parts}
 use Rattle.lines.specs.Text.{line}
-use Rattle.lines.proofs.Joins.{newline, line-joins}
+use Rattle.lines.proofs.Joins.{line-joins}
 use Rattle.lines.proofs.Lengths.{length-line}
 use Rattle.lines.proofs.writing.put_line.Statement.{statement}
 use Rattle.lines.proofs.writing.put_line.Tie as tie
 
-abbrev field-done : (c : tie.After-slice-known2) → let a = c .before .before .before .before .before .before .args in Progress (line (a .key .now) (a .x)) (a .room .now) (newline ∷ [])
+abbrev field-done : (c : tie.After-slice-known2) → let a = c .before .before .before .before .before .before .args in Progress (line (a .key .now) (a .x)) (a .room .now) (bytes "\n" ∷ [])
 field-done c =
     let s = c .before .before .before .before .before .before in
     let e = rw (toZ-ofZ (s .fits .x)) at (c .before .before .put-field .ensures) in

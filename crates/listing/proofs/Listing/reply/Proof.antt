@@ -4,6 +4,7 @@ use mathlib.Core.Path.{_≡_, sym, ap, _∙_}
 use mathlib.Core.List.{_++_}
 use lib.ListN.{length, take}
 use lib.Seq.{length-take-le}
+use Rattle.grid.specs.Grid.{gridOf}
 use Rattle.requests.specs.Requests.{requestIn}
 use Rattle.requests.specs.Replies.{checkedOnce, replyTo}
 use Rattle.listing.specs.Pieces.{heldLine}
@@ -22,7 +23,7 @@ reply-to-requires c κs = search needs
 returns : tie.Need-returns
 returns c =
     let a = c .before .before .before .before .args in
-    c .reply-to .ensures ∙ ap (λ n. replyTo (checkedOnce (a .h) (a .lat .now) (a .lon .now)) (requestIn (take (min n 65) (a .self .held) ++ a .part .now))) (sym (c .before .if1 .taken))
+    c .reply-to .ensures ∙ ap (λ n. replyTo (checkedOnce (gridOf (a .h) (a .lat .now) (a .lon .now))) (requestIn (take (min n 65) (a .self .held) ++ a .part .now))) (sym (c .before .if1 .taken))
 
 hold-requires : tie.Need-hold-requires
 hold-requires c κs = search needs
@@ -40,8 +41,8 @@ returns-2 : tie.Need-returns-2
 returns-2 c =
     let h = c .before .before .before in
     let a = h .before .before .before .before .args in
-    c .reply-to2 .ensures ∙ ap (λ l. replyTo (checkedOnce (a .h) (a .lat .now) (a .lon .now)) (requestIn l)) (front h .1)
-    ∙ ap (replyTo (checkedOnce (a .h) (a .lat .now) (a .lon .now))) (capped-request (heldLine (a .self) ++ a .part .now))
+    c .reply-to2 .ensures ∙ ap (λ l. replyTo (checkedOnce (gridOf (a .h) (a .lat .now) (a .lon .now))) (requestIn l)) (front h .1)
+    ∙ ap (replyTo (checkedOnce (gridOf (a .h) (a .lat .now) (a .lon .now)))) (capped-request (heldLine (a .self) ++ a .part .now))
 
 pub reply-spec : {M : Type 1} → statement M
 reply-spec =

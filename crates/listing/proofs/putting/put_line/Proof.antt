@@ -1,8 +1,8 @@
 use borrow.Author.Needs.{needs}
 use mathlib.Core.Path.{sym}
 use lib.Seq.{length-take-le}
+use Rattle.lines.specs.Text.{newline}
 use Rattle.requests.proofs.WordLaws.{found}
-use Rattle.listing.specs.Lines.{newline}
 use Rattle.listing.proofs.Steps.{stepped-held, stepped-line}
 use Rattle.listing.proofs.putting.put_line.Statement.{statement}
 use Rattle.listing.proofs.putting.put_line.Tie as tie

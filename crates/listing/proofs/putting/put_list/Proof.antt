@@ -6,6 +6,7 @@ use mathlib.Core.List.{List, _++_}
 use mathlib.Core.Logic.{inl}
 use borrow.Rule.Slice.PartMut.{putMid}
 use lib.ListN.{length}
+use Rattle.grid.specs.Grid.{gridOf}
 use Rattle.grid.specs.Rules.{nodesOf}
 use Rattle.requests.specs.Replies.{Conversions, checkedOnce}
 use Rattle.listing.specs.Listing.{sheetText, listText}
@@ -24,7 +25,7 @@ abbrev first : tie.Start → List ℕ
 first s = sheetText (nodesOf (s .args .h))
 
 abbrev conversions : tie.Start → Conversions
-conversions s = checkedOnce (s .args .h) (s .args .lat .now) (s .args .lon .now)
+conversions s = checkedOnce (gridOf (s .args .h) (s .args .lat .now) (s .args .lon .now))
 
 abbrev second : tie.Start → List ℕ
 second s = fedText (conversions s) fresh (s .args .text .now)

@@ -4,6 +4,7 @@ use Prim.Native.Nat.{_-_, _^_, _<_}
 use mathlib.Core.Path.{_≡_}
 use mathlib.Core.List.{[]}
 use lib.ListN.{length}
+use Rattle.grid.specs.Grid.{gridOf}
 use Rattle.requests.specs.Replies.{checkedOnce}
 use Rattle.listing.specs.Pieces.{fedList}
 use Rattle.listing.proofs.Rooms.{put-length}
@@ -12,13 +13,13 @@ use Rattle.listing.proofs.putting.put_replies.Statement.{statement}
 use Rattle.listing.proofs.putting.put_replies.Tie as tie
 
 abbrev Inv-loop : tie.InvT-loop
-Inv-loop h lat lon piece room₀ next₀ taken₀ bytes₀ room next taken bytes = FedSoFar (checkedOnce h lat lon) next₀ piece room₀ room next taken bytes
+Inv-loop h lat lon piece room₀ next₀ taken₀ bytes₀ room next taken bytes = FedSoFar (checkedOnce (gridOf h lat lon)) next₀ piece room₀ room next taken bytes
 
 abbrev μ-loop : tie.MeasureT-loop
 μ-loop h lat lon piece room₀ next₀ taken₀ bytes₀ room next taken bytes = length piece - taken
 
-tidied : (c : tie.After-hold Inv-loop μ-loop) → let a = c .before .before .before .before .args in c .hold .result ≡ fedList (checkedOnce (a .h) (a .lat .now) (a .lon .now)) (a .list) []
-tidied c = let a = c .before .before .before .before .args in fed-nothing (checkedOnce (a .h) (a .lat .now) (a .lon .now)) (a .list) (c .hold .ensures)
+tidied : (c : tie.After-hold Inv-loop μ-loop) → let a = c .before .before .before .before .args in c .hold .result ≡ fedList (checkedOnce (gridOf (a .h) (a .lat .now) (a .lon .now))) (a .list) []
+tidied c = let a = c .before .before .before .before .args in fed-nothing (checkedOnce (gridOf (a .h) (a .lat .now) (a .lon .now))) (a .list) (c .hold .ensures)
 
 -- the lengths of slices
 lengths : (c : tie.Start Inv-loop μ-loop) → (length (c .args .piece .now) < 2 ^ 64) × (length (c .args .room .now) < 2 ^ 64)
@@ -40,7 +41,7 @@ loop-holds : tie.Need-loop-holds Inv-loop μ-loop
 loop-holds c =
     let s = c .before .before .before .before in
     let a = s .args in
-    fed-none (checkedOnce (a .h) (a .lat .now) (a .lon .now)) (a .list) (tidied c) (a .piece .now) (a .room .now) (s .pre)
+    fed-none (checkedOnce (gridOf (a .h) (a .lat .now) (a .lon .now))) (a .list) (tidied c) (a .piece .now) (a .room .now) (s .pre)
 
 least-requires : tie.Need-least-requires Inv-loop μ-loop
 least-requires c κs = search needs
@@ -87,7 +88,7 @@ loop-again c =
     let l = p .before .before .before .before .before in
     let s = l .before .before .before .before .before in
     let a = s .args in
-    fed-more (checkedOnce (a .h) (a .lat .now) (a .lon .now)) (l .before .hold .result) (a .piece .now) (l .loop .inv) (lengths s .1)
+    fed-more (checkedOnce (gridOf (a .h) (a .lat .now) (a .lon .now))) (l .before .hold .result) (a .piece .now) (l .loop .inv) (lengths s .1)
     (p .before .before .before .before .loop-test .taken) (p .before .before .before .least .ensures) (p .put-line .ensures) (c .plus .ensures)
 
 same-length : tie.Need-same-length Inv-loop μ-loop
@@ -97,7 +98,7 @@ returns : tie.Need-returns Inv-loop μ-loop
 returns c =
     let l = c .before in
     let a = l .before .before .before .before .before .args in
-    fed-all (checkedOnce (a .h) (a .lat .now) (a .lon .now)) (a .list) (tidied (l .before)) (a .piece .now) (l .loop .inv) (c .loop-test .left)
+    fed-all (checkedOnce (gridOf (a .h) (a .lat .now) (a .lon .now))) (a .list) (tidied (l .before)) (a .piece .now) (l .loop .inv) (c .loop-test .left)
 
 pub put-replies-spec : {M : Type 1} → statement M
 put-replies-spec =
