@@ -20,12 +20,13 @@ use Rattle.grid_reader.specs.Needs.{Stored}
 use Rattle.grid_reader.specs.declared.Scan.{Scan}
 use Rattle.grid_reader.specs.declared.Step.{Step}
 use Rattle.grid_reader.specs.declared.Taken.{Taken}
+use Rattle.grid_reader.proofs.Places.{next-in-header}
 use Rattle.grid_reader.proofs.Feeding.{Leaves, fed-lengths}
 
--- the header is whole from place 62 on
+-- the header is whole behind its last number
 record Counted (room : ℕ) (s : Scan) : Type 0 where
-  few : 62 ≤ s .at → s .count ≤ 2048
-  held : 62 ≤ s .at → s .count ≤ room
+  few : colsAt < s .at → s .count ≤ 2048
+  held : colsAt < s .at → s .count ≤ room
 
 -- the same of the state that a byte or a text leaves, if it leaves one
 abbrev Stepped : ℕ → Step → Type 0
@@ -48,34 +49,34 @@ module _ (room : ℕ) where
 
   module _ (s : Scan) (c : Counted room s) where
     -- a state with the same count, beyond the header only where s is
-    kept : (t : Scan) → (62 ≤ t .at → 62 ≤ s .at) → t .count ≡ s .count → Counted room t
+    kept : (t : Scan) → (colsAt < t .at → colsAt < s .at) → t .count ≡ s .count → Counted room t
     kept t p e = record { few = λ h. omega (arith, c .few (p h)); held = λ h. omega (arith, c .held (p h)) }
 
-    node-counted : (x : ℤ) → 62 ≤ s .at → Stepped room (nodeEnd s x)
+    node-counted : (x : ℤ) → colsAt < s .at → Stepped room (nodeEnd s x)
     unfolding nodeEnd
     node-counted x h =
         by-test (Stepped room) (beyondRange (s .lat) || beyondRange x) (λ _. tt)
         (λ _. by-test (Stepped room) (ltb (s .node + 1) (s .count)) (λ _. kept _ (λ _. h) refl) (λ _. kept _ (λ _. h) refl))
 
-    count-counted : 62 ≤ s .at → Stepped room (countEnd s)
+    count-counted : colsAt < s .at → Stepped room (countEnd s)
     unfolding countEnd
     count-counted h = by-test (Stepped room) (eqb (s .number .magnitude) (s .count)) (λ _. kept _ (λ _. h) refl) (λ _. tt)
 
-    -- a number of the header ends before place 62
+    -- a number of the header before its last
     header-number-counted : (x : ℤ) → formAt (s .at) ≡ 35 → s .at < colsAt → Stepped room (headerNumberEnd s x)
-    unfolding headerNumberEnd form
-    header-number-counted x p l = kept _ (λ h. absurd (let e : 60 ≡ s .at = omega arith in omega (arith, ap formAt e ∙ p))) refl
+    unfolding headerNumberEnd
+    header-number-counted x p l = kept _ (λ h. absurd (omega (arith, next-in-header (s .at) p l))) refl
 
     closed-counted : (x : ℤ) → formAt (s .at) ≡ 35 → Stepped room (closed room s x)
     unfolding closed
     closed-counted x p =
         by-test (Stepped room) (ltb (s .at) colsAt) (λ l. header-number-counted x p (ltb-true (s .at) colsAt l))
         (λ l. by-test (Stepped room) (eqb (s .at) colsAt) (λ _. header-counted _)
-        (λ e. let h : 62 ≤ s .at = beyond (ltb-false (s .at) colsAt l) (eqb-false (s .at) colsAt e) in
+        (λ e. let h : colsAt < s .at = beyond (ltb-false (s .at) colsAt l) (eqb-false (s .at) colsAt e) in
         by-test (Stepped room) (eqb (s .at) latAt) (λ _. kept _ (λ _. h) refl)
         (λ _. by-test (Stepped room) (eqb (s .at) lonAt) (λ _. node-counted x h) (λ _. count-counted h))))
       where
-        beyond : {n : ℕ} → colsAt ≤ n → (n ≡ colsAt → ⊥) → 62 ≤ n
+        beyond : {n : ℕ} → colsAt ≤ n → (n ≡ colsAt → ⊥) → colsAt < n
         beyond h n = omega arith
 
     push-counted : (x : Pushed) → Stepped room (push s x)

@@ -27,7 +27,7 @@ use Rattle.grid.specs.Check.{layout, steepness}
 use Rattle.grid.specs.declared.Header.{Header}
 use Rattle.grid.proofs.RuleLaws.{rules-hold, extent}
 use Rattle.grid_reader.specs.Reading.{fixed, word, field, comma, nothing, ending, nodes, reading}
-use Rattle.grid_reader.specs.Scan.{form, colsAt, nodeLineAt, lonAt, endLineAt, countAt, wholeAt, lineEnd, linesBefore, scan, start, filled, headerNumberEnd, headerEnd, nodeEnd, closed, literalStep, step, fed, finished}
+use Rattle.grid_reader.specs.Scan.{form, toLineAt, southLineAt, westLineAt, dlatLineAt, dlonLineAt, rowsLineAt, colsLineAt, colsAt, nodeLineAt, lonAt, endLineAt, countAt, wholeAt, lineEnd, linesBefore, scan, start, filled, headerNumberEnd, headerEnd, nodeEnd, closed, literalStep, step, fed, finished}
 use Rattle.grid_reader.specs.declared.Step.{Step}
 use Rattle.grid_reader.specs.declared.Taken.{Taken}
 use Rattle.grid_reader.proofs.Onward.{readFrom, onward, one-byte}
@@ -195,41 +195,41 @@ module _ (lat lon lats lons : List ℤ) (roomy-z : 2048 ≤ length lats) (roomy-
   abbrev rest3 : (south : ℤ) → List ℕ → Outcome Grid
   rest3 s t = field 4 newline (bytes "west=") t (rest4 s)
 
-  line8 : (s w a o r : ℤ) (t : List ℕ) → from 56 (header s w a o r (pos 0)) t ≡ rest7 s w a o r t
+  line8 : (s w a o r : ℤ) (t : List ℕ) → from colsLineAt (header s w a o r (pos 0)) t ≡ rest7 s w a o r t
   unfolding filled closed form linesBefore lineEnd
   line8 s w a o r t =
-      fields room (header s w a o r (pos 0)) 0 0 (pos 0) lats lons 56 7 newline (bytes "cols=") (λ v. headerEnd room (header s w a o r v)) refl
+      fields room (header s w a o r (pos 0)) 0 0 (pos 0) lats lons colsLineAt 7 newline (bytes "cols=") (λ v. headerEnd room (header s w a o r v)) refl
       (record { number = refl; stops = refl; inside = omega arith; lines = refl }) (λ n v. refl) (omega arith) t
       ∙ ap (field 8 newline (bytes "cols=") t) (λ i v u. judged (header s w a o r v) u i)
 
-  line7 : (s w a o : ℤ) (t : List ℕ) → from 49 (header s w a o (pos 0) (pos 0)) t ≡ rest6 s w a o t
+  line7 : (s w a o : ℤ) (t : List ℕ) → from rowsLineAt (header s w a o (pos 0) (pos 0)) t ≡ rest6 s w a o t
   unfolding filled form linesBefore lineEnd
   line7 s w a o t =
-      number-line 49 6 (bytes "rows=") (header s w a o (pos 0) (pos 0)) refl (record { number = refl; stops = refl; inside = omega arith; lines = refl }) (omega arith) t
+      number-line rowsLineAt 6 (bytes "rows=") (header s w a o (pos 0) (pos 0)) refl (record { number = refl; stops = refl; inside = omega arith; lines = refl }) (omega arith) t
       ∙ ap (field 7 newline (bytes "rows=") t) (λ i v u. line8 s w a o v u i)
 
-  line6 : (s w a : ℤ) (t : List ℕ) → from 42 (header s w a (pos 0) (pos 0) (pos 0)) t ≡ rest5 s w a t
+  line6 : (s w a : ℤ) (t : List ℕ) → from dlonLineAt (header s w a (pos 0) (pos 0) (pos 0)) t ≡ rest5 s w a t
   unfolding filled form linesBefore lineEnd
   line6 s w a t =
-      number-line 42 5 (bytes "dlon=") (header s w a (pos 0) (pos 0) (pos 0)) refl (record { number = refl; stops = refl; inside = omega arith; lines = refl }) (omega arith) t
+      number-line dlonLineAt 5 (bytes "dlon=") (header s w a (pos 0) (pos 0) (pos 0)) refl (record { number = refl; stops = refl; inside = omega arith; lines = refl }) (omega arith) t
       ∙ ap (field 6 newline (bytes "dlon=") t) (λ i v u. line7 s w a v u i)
 
-  line5 : (s w : ℤ) (t : List ℕ) → from 35 (header s w (pos 0) (pos 0) (pos 0) (pos 0)) t ≡ rest4 s w t
+  line5 : (s w : ℤ) (t : List ℕ) → from dlatLineAt (header s w (pos 0) (pos 0) (pos 0) (pos 0)) t ≡ rest4 s w t
   unfolding filled form linesBefore lineEnd
   line5 s w t =
-      number-line 35 4 (bytes "dlat=") (header s w (pos 0) (pos 0) (pos 0) (pos 0)) refl (record { number = refl; stops = refl; inside = omega arith; lines = refl }) (omega arith) t
+      number-line dlatLineAt 4 (bytes "dlat=") (header s w (pos 0) (pos 0) (pos 0) (pos 0)) refl (record { number = refl; stops = refl; inside = omega arith; lines = refl }) (omega arith) t
       ∙ ap (field 5 newline (bytes "dlat=") t) (λ i v u. line6 s w v u i)
 
-  line4 : (s : ℤ) (t : List ℕ) → from 28 (header s (pos 0) (pos 0) (pos 0) (pos 0) (pos 0)) t ≡ rest3 s t
+  line4 : (s : ℤ) (t : List ℕ) → from westLineAt (header s (pos 0) (pos 0) (pos 0) (pos 0) (pos 0)) t ≡ rest3 s t
   unfolding filled form linesBefore lineEnd
   line4 s t =
-      number-line 28 3 (bytes "west=") (header s (pos 0) (pos 0) (pos 0) (pos 0) (pos 0)) refl (record { number = refl; stops = refl; inside = omega arith; lines = refl }) (omega arith) t
+      number-line westLineAt 3 (bytes "west=") (header s (pos 0) (pos 0) (pos 0) (pos 0) (pos 0)) refl (record { number = refl; stops = refl; inside = omega arith; lines = refl }) (omega arith) t
       ∙ ap (field 4 newline (bytes "west=") t) (λ i v u. line5 s v u i)
 
-  line3 : (t : List ℕ) → from 20 (start .header) t ≡ field 3 newline (bytes "south=") t rest3
+  line3 : (t : List ℕ) → from southLineAt (start .header) t ≡ field 3 newline (bytes "south=") t rest3
   unfolding filled form linesBefore lineEnd
   line3 t =
-      number-line 20 2 (bytes "south=") (start .header) refl (record { number = refl; stops = refl; inside = omega arith; lines = refl }) (omega arith) t
+      number-line southLineAt 2 (bytes "south=") (start .header) refl (record { number = refl; stops = refl; inside = omega arith; lines = refl }) (omega arith) t
       ∙ ap (field 3 newline (bytes "south=") t) (λ i v u. line4 v u i)
 
 -- lats and lons hold what they hold before the nodes are put into them
@@ -239,5 +239,5 @@ unfolding reading form linesBefore lineEnd
 line-by-line text lat lon lats lons l m =
     literals (min (length lat) (length lon)) (start .header) 0 0 (pos 0) lats lons (bytes "from=NAD27\n") 0 0 refl text
     ∙ ap (fixed 1 (bytes "from=NAD27\n") text) (λ i t.
-    (literals (min (length lat) (length lon)) (start .header) 0 0 (pos 0) lats lons (bytes "to=NAD83\n") 11 1 refl t
+    (literals (min (length lat) (length lon)) (start .header) 0 0 (pos 0) lats lons (bytes "to=NAD83\n") toLineAt 1 refl t
     ∙ ap (fixed 2 (bytes "to=NAD83\n") t) (λ j u. line3 lat lon lats lons l m u j)) i)

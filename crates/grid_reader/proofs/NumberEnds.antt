@@ -1,5 +1,5 @@
 -- The end of a number keeps what the state and the nodes tell of the text, at each of the nine places.
-use Prim.Native.Nat.{ℕ, zero, suc, _+_, _≤_, _<_}
+use Prim.Native.Nat.{ℕ, zero, suc, _+_, _-_, _≤_, _<_}
 use mathlib.Core.Path.{_≡_, refl, sym, ap, _∙_}
 use mathlib.Core.Bool.{true, false, _||_, cond}
 use mathlib.Core.List.{List, [], _∷_, _++_, append-assoc, append-nil}
@@ -130,7 +130,7 @@ module _ (room : ℕ) (n : Number) (h : Header) (c k : ℕ) (x : ℤ) (lat lon :
       by-test (After 10) (eqb (brokenRule whole) 0)
       (λ e. by-test (After 10) (ltb room (nodeCount whole)) (λ _. tt)
       (λ _. turned colsAt r 10 nodeLineAt whole (nodeCount whole) 0 (pos 0) lat lon
-      (in-node 62 (omega arith) (omega arith) refl (node-count whole (eqb-true (brokenRule whole) 0 e)))
+      (in-node (colsAt + 1) (omega arith) (omega arith) refl (node-count whole (eqb-true (brokenRule whole) 0 e)))
       refl refl (append-nil (headerText whole ++ []) ∙ append-nil (headerText whole) ∙ sym (header-whole whole)) (omega (arith, r .placed .early (omega arith)))))
       (λ _. tt)
     where
@@ -142,19 +142,19 @@ module _ (room : ℕ) (n : Number) (h : Header) (c k : ℕ) (x : ℤ) (lat lon :
   lat-ends : Ends latAt
   unfolding closed form linesBefore lineEnd linesSoFar filledForm
   lat-ends r =
-      turned latAt r 44 lonAt h c k (valueOf n) lat lon (in-node 69 (omega arith) (omega arith) refl (r .placed .counted (omega arith))) refl refl
-      (three (headerText h ++ nodeLines lat lon k) (filledForm (λ _. x) nodeLineAt 5) (spell (valueOf n)) (44 ∷ [])) (omega arith)
+      turned latAt r 44 lonAt h c k (valueOf n) lat lon (in-node (latAt + 1) (omega arith) (omega arith) refl (r .placed .counted (omega arith))) refl refl
+      (three (headerText h ++ nodeLines lat lon k) (filledForm (λ _. x) nodeLineAt (latAt - nodeLineAt)) (spell (valueOf n)) (44 ∷ [])) (omega arith)
 
   lon-ends : Ends lonAt
   unfolding closed nodeEnd form linesBefore lineEnd linesSoFar filledForm nodeLine pairLine
   lon-ends r =
       by-test (After 10) (beyondRange x || beyondRange (valueOf n)) (λ _. tt)
       (λ _. by-test (After 10) (ltb (k + 1) c)
-      (λ l. turned lonAt r 10 nodeLineAt h c (k + 1) x lats lons (in-node 62 (omega arith) (omega arith) refl (omega (arith, ltb-true (k + 1) c l), few .1))
+      (λ l. turned lonAt r 10 nodeLineAt h c (k + 1) x lats lons (in-node (colsAt + 1) (omega arith) (omega arith) refl (omega (arith, ltb-true (k + 1) c l), few .1))
       (length-set lat k x) (length-set lon k (valueOf n)) (append-nil (headerText h ++ nodeLines lats lons (k + 1)) ∙ same) (omega arith))
       (λ l.
       let q : k + 1 ≡ c = omega (arith, ltb-false (k + 1) c l, few .0) in
-      turned lonAt r 10 endLineAt h c k x lats lons (in-end 71 (omega arith) (omega arith) refl few q) (length-set lat k x) (length-set lon k (valueOf n))
+      turned lonAt r 10 endLineAt h c k x lats lons (in-end (lonAt + 1) (omega arith) (omega arith) refl few q) (length-set lat k x) (length-set lon k (valueOf n))
       (append-nil (headerText h ++ nodeLines lats lons c) ∙ ap (λ (j : ℕ). headerText h ++ nodeLines lats lons j) (sym q) ∙ same) (omega arith)))
     where
       lats : List ℤ
@@ -166,10 +166,10 @@ module _ (room : ℕ) (n : Number) (h : Header) (c k : ℕ) (x : ℤ) (lat lon :
       few : (k < c) × (c ≤ 2048)
       few = r .placed .counted (omega arith)
 
-      same : headerText h ++ nodeLines lats lons (k + 1) ≡ headerText h ++ nodeLines lat lon k ++ filledForm (λ _. x) nodeLineAt 7 ++ spell (valueOf n) ++ (10 ∷ [])
+      same : headerText h ++ nodeLines lats lons (k + 1) ≡ headerText h ++ nodeLines lat lon k ++ filledForm (λ _. x) nodeLineAt (lonAt - nodeLineAt) ++ spell (valueOf n) ++ (10 ∷ [])
       same =
           ap (λ (t : List ℕ). headerText h ++ t) (node-more lat lon x (valueOf n) k (omega (arith, few, r .lats)) (omega (arith, few, r .lons)))
-          ∙ four (headerText h) (nodeLines lat lon k) (filledForm (λ _. x) nodeLineAt 7) (spell (valueOf n)) (10 ∷ [])
+          ∙ four (headerText h) (nodeLines lat lon k) (filledForm (λ _. x) nodeLineAt (lonAt - nodeLineAt)) (spell (valueOf n)) (10 ∷ [])
 
   -- ---- the number of nodes
 
@@ -178,10 +178,10 @@ module _ (room : ℕ) (n : Number) (h : Header) (c k : ℕ) (x : ℤ) (lat lon :
   count-ends r =
       by-test (After 10) (eqb (n .magnitude) c)
       (λ e. turned countAt r 10 wholeAt h c k x lat lon
-      (in-end 77 (omega arith) (omega arith) refl (r .placed .counted (omega arith)) (r .placed .last (omega arith)))
+      (in-end (countAt + 1) (omega arith) (omega arith) refl (r .placed .counted (omega arith)) (r .placed .last (omega arith)))
       refl refl
-      (three (headerText h ++ nodeLines lat lon c) (filledForm (λ _. pos c) endLineAt 4) (spell (pos c)) (10 ∷ [])
-      ∙ ap (λ (v : ℤ). headerText h ++ nodeLines lat lon c ++ filledForm (λ _. pos c) endLineAt 4 ++ spell v ++ (10 ∷ []))
+      (three (headerText h ++ nodeLines lat lon c) (filledForm (λ _. pos c) endLineAt (countAt - endLineAt)) (spell (pos c)) (10 ∷ [])
+      ∙ ap (λ (v : ℤ). headerText h ++ nodeLines lat lon c ++ filledForm (λ _. pos c) endLineAt (countAt - endLineAt) ++ spell v ++ (10 ∷ []))
       (sym (value-small n (r .good .small) ∙ rw (r .plain refl, eqb-true (n .magnitude) c e))))
       (omega arith))
       (λ _. tt)

@@ -43,7 +43,7 @@ pub behind-is : (j : ℕ) {a : ℕ} → suc j ≡ a → eqb (formAt j) 35 ≡ fa
 behind-is j e f i q = let s : i ≡ j = omega arith in subst (λ (k : ℕ). eqb (formAt k) 35 ≡ false) (sym s) f
 
 -- no fixed byte leads into the lines of the nodes or out of them
-no-seam : {a k c : ℕ} → Placed a k c → (a ≡ 62 → ⊥) × (a ≡ 71 → ⊥)
+no-seam : {a k c : ℕ} → Placed a k c → (a ≡ suc colsAt → ⊥) × (a ≡ suc lonAt → ⊥)
 unfolding form
 no-seam p = (λ e. not-both refl (p .behind colsAt (sym e)), λ e. not-both refl (p .behind lonAt (sym e)))
 
@@ -87,7 +87,7 @@ module _ (s : Scan) (lat lon : List ℤ) where
       a : ℕ
       a = s .at
 
-      n : (a ≡ 62 → ⊥) × (a ≡ 71 → ⊥)
+      n : (a ≡ suc colsAt → ⊥) × (a ≡ suc lonAt → ⊥)
       n = no-seam p
 
       behind : (k : ℕ) (x : ℤ) (from : ℕ) → from ≤ a

@@ -12,33 +12,33 @@ ghost use Prim.Native.Nat.{_≤_, _<_, min};
 ghost use Rattle.grid_reader.specs.Scan.{colsAt, formAt, lineEnd, lineAt, start, departs, to, filled, headerNumberEnd, headerEnd, nodeEnd, countEnd, closed, leads, withNumber, grown, numberStep, literalStep, step};
 
 // A `#` stands for a number. The node line comes once for each node.
-const FORM: [u8; 78] =
+const FORM: [u8; WHOLE] =
     *b"from=NAD27\nto=NAD83\nsouth=#\nwest=#\ndlat=#\ndlon=#\nrows=#\ncols=#\nnode=#,#\nend=#\n";
 
 // Places of the form: its numbers, the start of the node line and of the end line, and its end.
 const SOUTH: usize = 26;
 
-const WEST: usize = 33;
+const WEST: usize = SOUTH + 7;
 
-const DLAT: usize = 40;
+const DLAT: usize = WEST + 7;
 
-const DLON: usize = 47;
+const DLON: usize = DLAT + 7;
 
-const ROWS: usize = 54;
+const ROWS: usize = DLON + 7;
 
-const COLS: usize = 61;
+const COLS: usize = ROWS + 7;
 
-const NODE_LINE: usize = 63;
+const NODE_LINE: usize = COLS + 2;
 
-const LAT: usize = 68;
+const LAT: usize = NODE_LINE + 5;
 
-const LON: usize = 70;
+const LON: usize = LAT + 2;
 
-const END_LINE: usize = 72;
+const END_LINE: usize = LON + 2;
 
-const COUNT: usize = 76;
+const COUNT: usize = END_LINE + 4;
 
-pub(crate) const WHOLE: usize = 78;
+pub(crate) const WHOLE: usize = COUNT + 2;
 
 pub(crate) fn begin() -> Scan
     ensures { λ r. ⌜ r ≡ start ⌝ }
