@@ -1,7 +1,6 @@
 // Numbers in lent slices: a header, as south, west, dlat, dlon, rows and cols, and an answer, latitude first.
 use super::reply;
 use convert::pairs::Converted;
-use figures::Nad27;
 use grid::Header;
 use slices::number_at;
 use slices::put;
@@ -22,14 +21,14 @@ pub(crate) const HEADER: usize = 6;
 pub(crate) fn header_in(s: &[i64]) -> Header
     ensures { λ r. ⌜ r ≡ headerIn (now (s .entry)) ⌝ }
 {
-    Header {
-        south: Nad27(number_at(s, 0)),
-        west: Nad27(number_at(s, 1)),
-        dlat: number_at(s, 2),
-        dlon: number_at(s, 3),
-        rows: number_at(s, 4),
-        cols: number_at(s, 5),
-    }
+    Header::new(
+        number_at(s, 0),
+        number_at(s, 1),
+        number_at(s, 2),
+        number_at(s, 3),
+        number_at(s, 4),
+        number_at(s, 5),
+    )
 }
 
 pub(crate) fn put_header(h: Header, s: &mut [i64])

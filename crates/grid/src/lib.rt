@@ -7,7 +7,7 @@ mod rules;
 use figures::Nad27;
 use figures::Refusal;
 ghost use mathlib.Core.Path.{_≡_};
-ghost use Rattle.grid.specs.Grid.{gridOf};
+ghost use Rattle.grid.specs.Grid.{header, gridOf};
 ghost use Rattle.grid.specs.Check.{outcome, layout, verdict};
 ghost use Rattle.grid.specs.Nodes.{beyondRange};
 
@@ -19,6 +19,21 @@ pub struct Header {
     pub dlon: i64,
     pub rows: i64,
     pub cols: i64,
+}
+
+impl Header {
+    pub fn new(south: i64, west: i64, dlat: i64, dlon: i64, rows: i64, cols: i64) -> Header
+        ensures { λ r. ⌜ r ≡ header south west dlat dlon rows cols ⌝ }
+    {
+        Header {
+            south: Nad27(south),
+            west: Nad27(west),
+            dlat,
+            dlon,
+            rows,
+            cols,
+        }
+    }
 }
 
 // The header's sizes as natural numbers: what is left of it in local coordinates.

@@ -13,9 +13,8 @@ use Rattle.decimal.specs.Pushing.{pushed, valueOf}
 use Rattle.decimal.specs.declared.Pushed.{Pushed}
 use Rattle.grid.specs.Rules.{brokenRule, nodeCount}
 use Rattle.grid.specs.Nodes.{beyondRange}
-use Rattle.grid.specs.declared.Header.{Header}
 use Rattle.grid.proofs.RuleLaws.{rules-hold, extent}
-use Rattle.grid_reader.specs.Scan.{form, colsAt, latAt, lonAt, countAt, wholeAt, formAt, start, headerNumberEnd, headerEnd, nodeEnd, countEnd, closed, leads, grown, push, numberStep, literalStep, step, taken, fed}
+use Rattle.grid_reader.specs.Scan.{form, colsAt, latAt, lonAt, countAt, wholeAt, formAt, start, atPlace, withHeader, filled, headerEnd, nodeEnd, countEnd, closed, leads, grown, push, numberStep, literalStep, step, taken, fed}
 use Rattle.grid_reader.specs.Needs.{Stored}
 use Rattle.grid_reader.specs.declared.Scan.{Scan}
 use Rattle.grid_reader.specs.declared.Step.{Step}
@@ -39,9 +38,10 @@ Reached room (Taken.On t) = Counted room t
 Reached room (Taken.Refused w) = Unit
 
 module _ (room : ℕ) where
-  header-counted : (h : Header) → Stepped room (headerEnd room h)
+  header-counted : (t : Scan) → Stepped room (headerEnd room t)
   unfolding headerEnd
-  header-counted h =
+  header-counted t =
+      let h = t .header in
       by-test (Stepped room) (eqb (brokenRule h) 0)
       (λ e. by-test (Stepped room) (ltb room (nodeCount h)) (λ _. tt)
       (λ l. record { few = λ _. extent (rules-hold h (eqb-true (brokenRule h) 0 e)) .nodes; held = λ _. ltb-false room (nodeCount h) l }))
@@ -63,8 +63,7 @@ module _ (room : ℕ) where
     count-counted h = by-test (Stepped room) (eqb (s .number .magnitude) (s .count)) (λ _. kept _ (λ _. h) refl) (λ _. tt)
 
     -- a number of the header before its last
-    header-number-counted : (x : ℤ) → formAt (s .at) ≡ 35 → s .at < colsAt → Stepped room (headerNumberEnd s x)
-    unfolding headerNumberEnd
+    header-number-counted : (x : ℤ) → formAt (s .at) ≡ 35 → s .at < colsAt → Stepped room (Step.On (atPlace (withHeader s (filled (s .at) x (s .header))) (s .at + 2)))
     header-number-counted x p l = kept _ (λ h. absurd (omega (arith, next-in-header (s .at) p l))) refl
 
     closed-counted : (x : ℤ) → formAt (s .at) ≡ 35 → Stepped room (closed room s x)

@@ -1,7 +1,7 @@
 -- The scanner and the reading line by line come to the same.
 use Prim.Native.Nat.{ℕ, zero, suc, _+_, _≤_, _<_, min}
 use mathlib.Core.Path.{_≡_, refl, sym, ap, _∙_, subst}
-use mathlib.Core.Bool.{Bool, true, false, not, _||_, cond}
+use mathlib.Core.Bool.{Bool, true, false, not, _&&_, _||_, cond}
 use mathlib.Core.List.{List, [], _∷_, _++_}
 use mathlib.Core.Logic.{inl}
 use native.Mathlib.Omega.{arith}
@@ -12,7 +12,7 @@ use lib.Dec.{ltb, eqb}
 use lib.ListN.{length}
 use lib.IntN.{ℤ, pos}
 use Rattle.laws.specs.Bytes.{bytes}
-use Rattle.laws.specs.Logic.{eqZ}
+use Rattle.laws.specs.Logic.{both, eqZ}
 use Rattle.figures.specs.Outcome.{Outcome, answered, refused, andThen, refuseIf}
 use Rattle.figures.specs.declared.Refusal.{Refusal}
 use Rattle.laws.specs.Over.{over, over-set, over-take}
@@ -27,26 +27,33 @@ use Rattle.grid.specs.Check.{layout, steepness}
 use Rattle.grid.specs.declared.Header.{Header}
 use Rattle.grid.proofs.RuleLaws.{rules-hold, extent}
 use Rattle.grid_reader.specs.Reading.{fixed, word, field, comma, nothing, ending, nodes, reading}
-use Rattle.grid_reader.specs.Scan.{form, toLineAt, southLineAt, westLineAt, dlatLineAt, dlonLineAt, rowsLineAt, colsLineAt, colsAt, nodeLineAt, lonAt, endLineAt, countAt, wholeAt, lineEnd, linesBefore, scan, start, filled, headerNumberEnd, headerEnd, nodeEnd, closed, literalStep, step, fed, finished}
+use Rattle.grid_reader.specs.Scan.{form, toLineAt, southLineAt, westLineAt, dlatLineAt, dlonLineAt, rowsLineAt, colsLineAt, colsAt, nodeLineAt, lonAt, endLineAt, countAt, wholeAt, lineEnd, linesBefore, lineAt, scan, start, filled, headerEnd, nodeEnd, closed, literalStep, step, fed, finished}
 use Rattle.grid_reader.specs.declared.Step.{Step}
 use Rattle.grid_reader.specs.declared.Taken.{Taken}
 use Rattle.grid_reader.proofs.Onward.{readFrom, onward, one-byte}
-use Rattle.grid_reader.proofs.Pieces.{isPiece, Mark, literals, numbers}
+use Rattle.grid_reader.proofs.Pieces.{isPiece, isMark, marked, literals, numbers}
 use Rattle.grid_reader.proofs.Count.{counts}
 use Rattle.grid_reader.proofs.NodesSoFar.{NodesSoFar, no-node, one-node, left-to-judge}
 
 -- ---- a key and a number
 
+-- the form has `key` at place a, and a number up to `stop` behind it
+abbrev isField : (a stop : ℕ) → (key : List ℕ) → Bool
+isField a stop key = isPiece a (linesBefore a) key && isMark (a + length key) stop (linesBefore a)
+
 module _ (room : ℕ) (h : Header) (c k : ℕ) (x : ℤ) (lat lon : List ℤ) where
   abbrev at : ℕ → List ℕ → Outcome Grid
   at a t = readFrom room (scan a none h c k x) lat lon t
 
-  fields : (a l stop : ℕ) (key : List ℕ) (next : ℤ → Step) → isPiece a l key ≡ true → Mark (a + length key) stop l
+  -- where `next` is what the number's end leads to
+  fields : (a stop : ℕ) (key : List ℕ) (next : ℤ → Step) → isField a stop key ≡ true
       → ((n : Number) (v : ℤ) → closed room (scan (a + length key) n h c k x) v ≡ next v) → (a + length key ≡ countAt → ⊥)
-      → (t : List ℕ) → at a t ≡ field (suc l + k) stop key t (λ v u. onward room k lat lon (next v) u)
-  fields a l stop key next e m f g t =
-      literals room h c k x lat lon key a l e t
-      ∙ ap (fixed (suc l + k) key t) (λ i u. numbers room h c k x lat lon m next f g none good-none u i)
+      → (t : List ℕ) → at a t ≡ field (lineAt a k) stop key t (λ v u. onward room k lat lon (next v) u)
+  fields a stop key next e f g t =
+      let l = linesBefore a in
+      let b = both (isPiece a l key) (isMark (a + length key) stop l) e in
+      literals room h c k x lat lon key a l (b .0) t
+      ∙ ap (fixed (lineAt a k) key t) (λ i u. numbers room h c k x lat lon (marked (a + length key) stop l (b .1)) next f g none good-none u i)
 
 -- ---- the number of nodes
 
@@ -74,7 +81,7 @@ module _ (room : ℕ) (h : Header) (unbroken : brokenRule h ≡ 0) (z w : List �
       → readFrom room (scan endLineAt none h (nodeCount h) k x) (over xs z) (over ys w) t ≡ ending h xs ys t
   unfolding ending form linesBefore lineEnd
   ends k x xs ys e r t =
-      literals room h (nodeCount h) k x (over xs z) (over ys w) (bytes "end=") endLineAt 9 refl t
+      literals room h (nodeCount h) k x (over xs z) (over ys w) (bytes "end=") endLineAt (linesBefore endLineAt) refl t
       ∙ ap (fixed (10 + k) (bytes "end=") t) (λ i u. counts room h (nodeCount h) k x (over xs z) (over ys w) (omega (arith, few)) (node-count h unbroken .0) none good-none (inl refl) u i)
       ∙ ap (field (10 + k) newline (bytes "end=") t) (λ i v u. refuseIf (not (eqZ v (pos (nodeCount h)))) 1 (10 + k) (follows k x xs ys e r u i))
       ∙ ap (λ (line : ℕ). field line newline (bytes "end=") t (λ v u. refuseIf (not (eqZ v (pos (nodeCount h)))) 1 line
@@ -92,10 +99,10 @@ module _ (room : ℕ) (h : Header) (unbroken : brokenRule h ≡ 0) (z w : List �
       → (t : List ℕ) → readFrom room (scan nodeLineAt none h (nodeCount h) k x) (over xs z) (over ys w) t ≡ nodes h (suc left) k xs ys t
   unfolding nodes closed nodeEnd form linesBefore lineEnd
   node-line left k x xs ys rest t =
-      fields room h (nodeCount h) k x (over xs z) (over ys w) nodeLineAt 8 comma (bytes "node=") (λ v. Step.On (scan lonAt none h (nodeCount h) k v)) refl
-      (record { number = refl; stops = refl; inside = omega arith; lines = refl }) (λ m v. refl) (omega arith) t
+      fields room h (nodeCount h) k x (over xs z) (over ys w) nodeLineAt comma (bytes "node=") (λ v. Step.On (scan lonAt none h (nodeCount h) k v)) refl
+      (λ m v. refl) (omega arith) t
       ∙ ap (field (9 + k) comma (bytes "node=") t) (λ i v u.
-      (numbers room h (nodeCount h) k v (over xs z) (over ys w) {a = lonAt} {stop = newline} {l = 8} (record { number = refl; stops = refl; inside = omega arith; lines = refl })
+      (numbers room h (nodeCount h) k v (over xs z) (over ys w) (marked lonAt newline (linesBefore lonAt) refl)
       (nodeEnd (scan lonAt none h (nodeCount h) k v)) (λ m y. refl) (omega arith) none good-none u
       ∙ ap (word (9 + k) newline [] u) (λ j y r. judged v y r (beyondRange v || beyondRange y) refl j)) i)
     where
@@ -153,9 +160,9 @@ module _ (lat lon lats lons : List ℤ) (roomy-z : 2048 ≤ length lats) (roomy-
           (node-lines room h e lats lons roomy-z roomy-w left 0 (pos 0) [] [] (omega (arith, q)) no-node t)
 
   -- the eight lines are whole
-  judged : (h : Header) (t : List ℕ) → onward room 0 lats lons (headerEnd room h) t ≡ andThen (layout (gridOf h lat lon)) (nodes h (nodeCount h) 0 [] [] t)
+  judged : (n : Number) (h : Header) (t : List ℕ) → onward room 0 lats lons (headerEnd room (scan colsAt n h 0 0 (pos 0))) t ≡ andThen (layout (gridOf h lat lon)) (nodes h (nodeCount h) 0 [] [] t)
   unfolding headerEnd layout
-  judged h t = rules (eqb (brokenRule h) 0) refl
+  judged n h t = rules (eqb (brokenRule h) 0) refl
     where
       roomy : brokenRule h ≡ 0 → (d : Bool)
           → onward room 0 lats lons (cond d (Step.Refused (Refusal.NodeRoom (nodeCount h))) (Step.On (scan nodeLineAt none h (nodeCount h) 0 (pos 0)))) t
@@ -163,81 +170,48 @@ module _ (lat lon lats lons : List ℤ) (roomy-z : 2048 ≤ length lats) (roomy-
       roomy e true = refl
       roomy e false = first-node h e t
 
-      rules : (d : Bool) → eqb (brokenRule h) 0 ≡ d → onward room 0 lats lons (headerEnd room h) t ≡ andThen (layout (gridOf h lat lon)) (nodes h (nodeCount h) 0 [] [] t)
+      rules : (d : Bool) → eqb (brokenRule h) 0 ≡ d → onward room 0 lats lons (headerEnd room (scan colsAt n h 0 0 (pos 0))) t ≡ andThen (layout (gridOf h lat lon)) (nodes h (nodeCount h) 0 [] [] t)
       rules false e = rw e
       rules true e =
           rw (e, shorter (length lat) (length lon) (nodeCount h))
           (roomy (eqb-true (brokenRule h) 0 e) (ltb (length lat) (nodeCount h) || ltb (length lon) (nodeCount h)))
 
-  number-line : (a l : ℕ) (key : List ℕ) (h : Header) → isPiece a l key ≡ true → Mark (a + length key) newline l → a + length key < colsAt
-      → (t : List ℕ) → from a h t ≡ field (suc l + 0) newline key t (λ v u. from (a + length key + 2) (filled (a + length key) v h) u)
-  unfolding closed headerNumberEnd
-  number-line a l key h e m i t =
-      fields room h 0 0 (pos 0) lats lons a l newline key (λ v. Step.On (scan (a + length key + 2) none (filled (a + length key) v h) 0 0 (pos 0))) e m
+  -- a line of the form, and what follows it
+  fixed-line : (a : ℕ) (piece : List ℕ) (h : Header) {next : List ℕ → Outcome Grid} → isPiece a (linesBefore a) piece ≡ true
+      → ((u : List ℕ) → from (a + length piece) h u ≡ next u) → (t : List ℕ) → from a h t ≡ fixed (lineAt a 0) piece t next
+  fixed-line a piece h e rest t = literals room h 0 0 (pos 0) lats lons piece a (linesBefore a) e t ∙ ap (fixed (lineAt a 0) piece t) (λ i u. rest u i)
+
+  number-line : (a : ℕ) (key : List ℕ) (h : Header) {next : ℤ → List ℕ → Outcome Grid} → isField a newline key ≡ true → a + length key < colsAt
+      → ((v : ℤ) (u : List ℕ) → from (a + length key + 2) (filled (a + length key) v h) u ≡ next v u)
+      → (t : List ℕ) → from a h t ≡ field (lineAt a 0) newline key t next
+  unfolding closed
+  number-line a key h e i rest t =
+      fields room h 0 0 (pos 0) lats lons a newline key (λ v. Step.On (scan (a + length key + 2) none (filled (a + length key) v h) 0 0 (pos 0))) e
       (λ n v. rw (lt-ltb (a + length key) colsAt i)) (omega arith) t
+      ∙ ap (field (lineAt a 0) newline key t) (λ j v u. rest v u j)
 
-  -- what follows the south, the west, .. line
-  abbrev rest8 : (south west dlat dlon rows cols : ℤ) → List ℕ → Outcome Grid
-  rest8 s w a o r c t = let h = header s w a o r c in andThen (layout (gridOf h lat lon)) (nodes h (nodeCount h) 0 [] [] t)
+  -- the last of the header
+  cols-line : (h : Header) (t : List ℕ) → from colsLineAt h t
+      ≡ field (lineAt colsLineAt 0) newline (bytes "cols=") t (λ v u. let g = filled colsAt v h in andThen (layout (gridOf g lat lon)) (nodes g (nodeCount g) 0 [] [] u))
+  unfolding closed headerEnd form linesBefore lineEnd
+  cols-line h t =
+      fields room h 0 0 (pos 0) lats lons colsLineAt newline (bytes "cols=") (λ v. headerEnd room (scan colsAt none (filled colsAt v h) 0 0 (pos 0))) refl
+      (λ n v. refl) (omega arith) t
+      ∙ ap (field (lineAt colsLineAt 0) newline (bytes "cols=") t) (λ i v u. judged none (filled colsAt v h) u i)
 
-  abbrev rest7 : (south west dlat dlon rows : ℤ) → List ℕ → Outcome Grid
-  rest7 s w a o r t = field 8 newline (bytes "cols=") t (rest8 s w a o r)
-
-  abbrev rest6 : (south west dlat dlon : ℤ) → List ℕ → Outcome Grid
-  rest6 s w a o t = field 7 newline (bytes "rows=") t (rest7 s w a o)
-
-  abbrev rest5 : (south west dlat : ℤ) → List ℕ → Outcome Grid
-  rest5 s w a t = field 6 newline (bytes "dlon=") t (rest6 s w a)
-
-  abbrev rest4 : (south west : ℤ) → List ℕ → Outcome Grid
-  rest4 s w t = field 5 newline (bytes "dlat=") t (rest5 s w)
-
-  abbrev rest3 : (south : ℤ) → List ℕ → Outcome Grid
-  rest3 s t = field 4 newline (bytes "west=") t (rest4 s)
-
-  line8 : (s w a o r : ℤ) (t : List ℕ) → from colsLineAt (header s w a o r (pos 0)) t ≡ rest7 s w a o r t
-  unfolding filled closed form linesBefore lineEnd
-  line8 s w a o r t =
-      fields room (header s w a o r (pos 0)) 0 0 (pos 0) lats lons colsLineAt 7 newline (bytes "cols=") (λ v. headerEnd room (header s w a o r v)) refl
-      (record { number = refl; stops = refl; inside = omega arith; lines = refl }) (λ n v. refl) (omega arith) t
-      ∙ ap (field 8 newline (bytes "cols=") t) (λ i v u. judged (header s w a o r v) u i)
-
-  line7 : (s w a o : ℤ) (t : List ℕ) → from rowsLineAt (header s w a o (pos 0) (pos 0)) t ≡ rest6 s w a o t
-  unfolding filled form linesBefore lineEnd
-  line7 s w a o t =
-      number-line rowsLineAt 6 (bytes "rows=") (header s w a o (pos 0) (pos 0)) refl (record { number = refl; stops = refl; inside = omega arith; lines = refl }) (omega arith) t
-      ∙ ap (field 7 newline (bytes "rows=") t) (λ i v u. line8 s w a o v u i)
-
-  line6 : (s w a : ℤ) (t : List ℕ) → from dlonLineAt (header s w a (pos 0) (pos 0) (pos 0)) t ≡ rest5 s w a t
-  unfolding filled form linesBefore lineEnd
-  line6 s w a t =
-      number-line dlonLineAt 5 (bytes "dlon=") (header s w a (pos 0) (pos 0) (pos 0)) refl (record { number = refl; stops = refl; inside = omega arith; lines = refl }) (omega arith) t
-      ∙ ap (field 6 newline (bytes "dlon=") t) (λ i v u. line7 s w a v u i)
-
-  line5 : (s w : ℤ) (t : List ℕ) → from dlatLineAt (header s w (pos 0) (pos 0) (pos 0) (pos 0)) t ≡ rest4 s w t
-  unfolding filled form linesBefore lineEnd
-  line5 s w t =
-      number-line dlatLineAt 4 (bytes "dlat=") (header s w (pos 0) (pos 0) (pos 0) (pos 0)) refl (record { number = refl; stops = refl; inside = omega arith; lines = refl }) (omega arith) t
-      ∙ ap (field 5 newline (bytes "dlat=") t) (λ i v u. line6 s w v u i)
-
-  line4 : (s : ℤ) (t : List ℕ) → from westLineAt (header s (pos 0) (pos 0) (pos 0) (pos 0) (pos 0)) t ≡ rest3 s t
-  unfolding filled form linesBefore lineEnd
-  line4 s t =
-      number-line westLineAt 3 (bytes "west=") (header s (pos 0) (pos 0) (pos 0) (pos 0) (pos 0)) refl (record { number = refl; stops = refl; inside = omega arith; lines = refl }) (omega arith) t
-      ∙ ap (field 4 newline (bytes "west=") t) (λ i v u. line5 s v u i)
-
-  line3 : (t : List ℕ) → from southLineAt (start .header) t ≡ field 3 newline (bytes "south=") t rest3
-  unfolding filled form linesBefore lineEnd
-  line3 t =
-      number-line southLineAt 2 (bytes "south=") (start .header) refl (record { number = refl; stops = refl; inside = omega arith; lines = refl }) (omega arith) t
-      ∙ ap (field 3 newline (bytes "south=") t) (λ i v u. line4 v u i)
+  pub from-start : (text : List ℕ) → from 0 (start .header) text ≡ reading text lat lon
+  unfolding reading filled form linesBefore lineEnd
+  from-start =
+      fixed-line 0 (bytes "from=NAD27\n") (start .header) refl
+      (fixed-line toLineAt (bytes "to=NAD83\n") (start .header) refl
+      (number-line southLineAt (bytes "south=") _ refl (omega arith) λ south.
+      number-line westLineAt (bytes "west=") _ refl (omega arith) λ west.
+      number-line dlatLineAt (bytes "dlat=") _ refl (omega arith) λ dlat.
+      number-line dlonLineAt (bytes "dlon=") _ refl (omega arith) λ dlon.
+      number-line rowsLineAt (bytes "rows=") _ refl (omega arith) λ rows.
+      cols-line _))
 
 -- lats and lons hold what they hold before the nodes are put into them
 pub line-by-line : (text : List ℕ) (lat lon lats lons : List ℤ) → 2048 ≤ length lats → 2048 ≤ length lons
     → finished (fed (min (length lat) (length lon)) (Taken.On start) lats lons text) ≡ reading text lat lon
-unfolding reading form linesBefore lineEnd
-line-by-line text lat lon lats lons l m =
-    literals (min (length lat) (length lon)) (start .header) 0 0 (pos 0) lats lons (bytes "from=NAD27\n") 0 0 refl text
-    ∙ ap (fixed 1 (bytes "from=NAD27\n") text) (λ i t.
-    (literals (min (length lat) (length lon)) (start .header) 0 0 (pos 0) lats lons (bytes "to=NAD83\n") toLineAt 1 refl t
-    ∙ ap (fixed 2 (bytes "to=NAD83\n") t) (λ j u. line3 lat lon lats lons l m u j)) i)
+line-by-line text lat lon lats lons l m = from-start lat lon lats lons l m text

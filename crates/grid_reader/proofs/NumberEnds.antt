@@ -20,7 +20,7 @@ use Rattle.grid.specs.Nodes.{beyondRange}
 use Rattle.grid.specs.declared.Header.{Header}
 use Rattle.lines.specs.Text.{pairLine}
 use Rattle.grid_text.specs.Text.{headerText, nodeLine, nodeLines}
-use Rattle.grid_reader.specs.Scan.{form, southAt, westAt, dlatAt, dlonAt, rowsAt, colsAt, nodeLineAt, latAt, lonAt, endLineAt, countAt, wholeAt, formAt, lineEnd, linesBefore, lineAt, scan, filled, headerNumberEnd, headerEnd, nodeEnd, countEnd, closed}
+use Rattle.grid_reader.specs.Scan.{form, southAt, westAt, dlatAt, dlonAt, rowsAt, colsAt, nodeLineAt, latAt, lonAt, endLineAt, countAt, wholeAt, formAt, lineEnd, linesBefore, lineAt, scan, filled, headerEnd, nodeEnd, countEnd, closed}
 use Rattle.grid_reader.specs.SoFar.{numberAt, filledForm, linesSoFar, soFar}
 use Rattle.grid_reader.specs.declared.Step.{Step}
 use Rattle.grid_reader.proofs.LineByLine.{node-count}
@@ -90,7 +90,7 @@ module _ (room : ℕ) (n : Number) (h : Header) (c k : ℕ) (x : ℤ) (lat lon :
   header-ends : (a : ℕ) → a < colsAt → formAt (a + 1) ≡ 10 → linesBefore (a + 2) ≡ linesBefore a + 1
       → filledForm (numberAt (filled a (valueOf n) h)) 0 (a + 2) ≡ filledForm (numberAt h) 0 a ++ spell (valueOf n) ++ (10 ∷ [])
       → Ends a
-  unfolding closed headerNumberEnd linesSoFar
+  unfolding closed linesSoFar
   header-ends a l e f g r =
       rw (lt-ltb a colsAt l, e)
       (turned a r 10 (a + 2) (filled a (valueOf n) h) c k x lat lon
@@ -129,13 +129,22 @@ module _ (room : ℕ) (n : Number) (h : Header) (c k : ℕ) (x : ℤ) (lat lon :
   cols-ends r =
       by-test (After 10) (eqb (brokenRule whole) 0)
       (λ e. by-test (After 10) (ltb room (nodeCount whole)) (λ _. tt)
-      (λ _. turned colsAt r 10 nodeLineAt whole (nodeCount whole) 0 (pos 0) lat lon
-      (in-node (colsAt + 1) (omega arith) (omega arith) refl (node-count whole (eqb-true (brokenRule whole) 0 e)))
-      refl refl (append-nil (headerText whole ++ []) ∙ append-nil (headerText whole) ∙ sym (header-whole whole)) (omega (arith, r .placed .early (omega arith)))))
+      (λ _. turned colsAt r 10 nodeLineAt whole (nodeCount whole) k x lat lon
+      (in-node (colsAt + 1) (omega arith) (omega arith) refl (few e))
+      refl refl (same ∙ sym (header-whole whole)) (omega arith)))
       (λ _. tt)
     where
+      none-read : k ≡ 0
+      none-read = r .placed .early (omega arith)
+
       whole : Header
       whole = filled colsAt (valueOf n) h
+
+      few : eqb (brokenRule whole) 0 ≡ true → (k < nodeCount whole) × (nodeCount whole ≤ 2048)
+      few e = let m = node-count whole (eqb-true (brokenRule whole) 0 e) in (omega (arith, m .0, none-read), m .1)
+
+      same : headerText whole ++ nodeLines lat lon k ++ [] ≡ headerText whole
+      same = append-nil (headerText whole ++ nodeLines lat lon k) ∙ ap (λ (j : ℕ). headerText whole ++ nodeLines lat lon j) none-read ∙ append-nil (headerText whole)
 
   -- ---- a node
 

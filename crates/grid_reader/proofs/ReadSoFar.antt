@@ -15,7 +15,7 @@ use Rattle.decimal.specs.declared.Number.{Number}
 use Rattle.decimal.specs.declared.Pushed.{Pushed}
 use Rattle.decimal.proofs.Grown.{Good, good-none, push-grown}
 use Rattle.grid_text.specs.Text.{headerText, nodeLines}
-use Rattle.grid_reader.specs.Scan.{form, colsAt, nodeLineAt, lonAt, endLineAt, countAt, wholeAt, formAt, lineEnd, linesBefore, lineAt, to, leads, grown, push, literalStep}
+use Rattle.grid_reader.specs.Scan.{form, colsAt, nodeLineAt, lonAt, endLineAt, countAt, wholeAt, formAt, lineEnd, linesBefore, lineAt, atPlace, leads, grown, push, literalStep}
 use Rattle.grid_reader.specs.SoFar.{numberAt, filledForm, linesSoFar, soFar, newlines}
 use Rattle.grid_reader.specs.declared.Scan.{Scan}
 use Rattle.grid_reader.specs.declared.Step.{Step}
@@ -80,7 +80,7 @@ Kept k lat lon w (Step.Refused r) = Unit {0}
 module _ (s : Scan) (lat lon : List ℤ) where
   -- ---- a fixed byte
 
-  lines-more : Placed (s .at) (s .node) (s .count) → eqb (formAt (s .at)) 35 ≡ false → linesSoFar (to s (s .at + 1)) lat lon ≡ linesSoFar s lat lon ++ (formAt (s .at) ∷ [])
+  lines-more : Placed (s .at) (s .node) (s .count) → eqb (formAt (s .at)) 35 ≡ false → linesSoFar (atPlace s (s .at + 1)) lat lon ≡ linesSoFar s lat lon ++ (formAt (s .at) ∷ [])
   unfolding linesSoFar
   lines-more p e = go (ltb a nodeLineAt) refl (ltb a endLineAt) refl
     where
@@ -98,7 +98,7 @@ module _ (s : Scan) (lat lon : List ℤ) where
           ap (λ (u : List ℕ). t ++ u) (form-more (λ _. x) from a (a - from) (a + 1 - from) (omega arith) (omega arith) e)
           ∙ sym (append-assoc t (filledForm (λ _. x) from (a - from)) (formAt a ∷ []))
 
-      go : (x : Bool) → ltb a nodeLineAt ≡ x → (y : Bool) → ltb a endLineAt ≡ y → linesSoFar (to s (a + 1)) lat lon ≡ linesSoFar s lat lon ++ (formAt a ∷ [])
+      go : (x : Bool) → ltb a nodeLineAt ≡ x → (y : Bool) → ltb a endLineAt ≡ y → linesSoFar (atPlace s (a + 1)) lat lon ≡ linesSoFar s lat lon ++ (formAt a ∷ [])
       go true f y g =
           let l : a + 1 < nodeLineAt = omega (arith, ltb-true a nodeLineAt f, n .0) in
           rw (f, lt-ltb (a + 1) nodeLineAt l) (form-more (numberAt (s .header)) 0 a a (a + 1) (omega arith) (omega arith) e)
@@ -126,7 +126,7 @@ module _ (s : Scan) (lat lon : List ℤ) where
           placed = placed-next (s .at) (s .node) (s .count) (r .placed) e (ltb-true (s .at) wholeAt (c .0));
           lats = r .lats;
           lons = r .lons;
-          same = append-nil (linesSoFar (to s (s .at + 1)) lat lon) ∙ lines-more (r .placed) e ∙ (λ i. z i ++ (sym f i ∷ []));
+          same = append-nil (linesSoFar (atPlace s (s .at + 1)) lat lon) ∙ lines-more (r .placed) e ∙ (λ i. z i ++ (sym f i ∷ []));
           lines = rw (add-one, newlines-more w b, f) (omega (arith, r .lines));
         })
         (λ _. tt)

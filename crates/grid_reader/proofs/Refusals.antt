@@ -18,9 +18,8 @@ use Rattle.decimal.specs.declared.Pushed.{Pushed}
 use Rattle.grid.specs.Grid.{Grid}
 use Rattle.grid.specs.Rules.{brokenRule, nodeCount}
 use Rattle.grid.specs.Nodes.{beyondRange}
-use Rattle.grid.specs.declared.Header.{Header}
 use Rattle.grid_reader.specs.Reading.{reading}
-use Rattle.grid_reader.specs.Scan.{colsAt, latAt, lonAt, countAt, wholeAt, formAt, lineAt, start, filled, headerNumberEnd, headerEnd, nodeEnd, countEnd, closed, leads, grown, push, numberStep, literalStep, step, Fed, taken, fed, ended}
+use Rattle.grid_reader.specs.Scan.{colsAt, latAt, lonAt, countAt, wholeAt, formAt, lineAt, start, withHeader, filled, headerEnd, nodeEnd, countEnd, closed, leads, grown, push, numberStep, literalStep, step, Fed, taken, fed, ended}
 use Rattle.grid_reader.specs.SoFar.{newlines}
 use Rattle.grid_reader.specs.declared.Scan.{Scan}
 use Rattle.grid_reader.specs.declared.Step.{Step}
@@ -52,9 +51,10 @@ module _ (room : ℕ) (s : Scan) where
   abbrev Own : Step → Type 0
   Own = After (λ _. Unit {0}) (λ r. numberOf r ≡ 1 → r ≡ Refusal.Form (lineAt (s .at) (s .node)))
 
-  header-own : (h : Header) → Own (headerEnd room h)
+  header-own : (t : Scan) → Own (headerEnd room t)
   unfolding headerEnd
-  header-own h =
+  header-own t =
+      let h = t .header in
       by-test Own (eqb (brokenRule h) 0)
       (λ _. by-test Own (ltb room (nodeCount h)) (λ _ q. absurd (omega arith)) (λ _. tt))
       (λ _ q. absurd (omega arith))
@@ -66,10 +66,10 @@ module _ (room : ℕ) (s : Scan) where
       (λ _. by-test Own (ltb (s .node + 1) (s .count)) (λ _. tt) (λ _. tt))
 
   closed-own : (v : ℤ) → Own (closed room s v)
-  unfolding closed headerNumberEnd countEnd
+  unfolding closed countEnd
   closed-own v =
       by-test Own (ltb (s .at) colsAt) (λ _. tt)
-      (λ _. by-test Own (eqb (s .at) colsAt) (λ _. header-own (filled colsAt v (s .header)))
+      (λ _. by-test Own (eqb (s .at) colsAt) (λ _. header-own (withHeader s (filled colsAt v (s .header))))
       (λ _. by-test Own (eqb (s .at) latAt) (λ _. tt)
       (λ _. by-test Own (eqb (s .at) lonAt) (λ _. node-own v)
       (λ _. by-test Own (eqb (s .number .magnitude) (s .count)) (λ _. tt) (λ _ _. refl)))))

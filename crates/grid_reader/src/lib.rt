@@ -1,11 +1,13 @@
 // A grid read from its text.
 mod nodes;
 mod scanner;
+mod state;
 
 use decimal::Number;
 use figures::Refusal;
 use grid::Checked;
 use grid::Header;
+use slices::least;
 ghost use mathlib.Core.Path.{_≡_};
 ghost use Rattle.figures.specs.Outcome.{mapAnswer};
 ghost use Rattle.grid_reader.specs.Reading.{outcome, headerOf, reading, latAfter, lonAfter};
@@ -50,7 +52,7 @@ pub fn read(text: &[u8], lat: &mut [i64], lon: &mut [i64]) -> GridRead
     ensures lat { λ r. ⌜ now (lat .exit) ≡ latAfter (reading (now (text .entry)) (now (lat .entry)) (now (lon .entry))) (now (lat .entry)) ⌝ }
     ensures lon { λ r. ⌜ now (lon .exit) ≡ lonAfter (reading (now (text .entry)) (now (lat .entry)) (now (lon .entry))) (now (lon .entry)) ⌝ }
 {
-    let room = scanner::least(lat.len(), lon.len());
+    let room = least(lat.len(), lon.len());
     let mut lats = [0i64; 2048];
     let mut lons = [0i64; 2048];
     match nodes::scan(text, room, &mut lats, &mut lons) {

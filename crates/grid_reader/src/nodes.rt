@@ -16,7 +16,7 @@ pub(crate) fn scan(text: &[u8], room: usize, lat: &mut [i64], lon: &mut [i64]) -
     ensures lat { λ r. ⌜ now (lat .exit) ≡ fed room (Taken.On start) (now (lat .entry)) (now (lon .entry)) (now (text .entry)) .lat ⌝ }
     ensures lon { λ r. ⌜ now (lon .exit) ≡ fed room (Taken.On start) (now (lat .entry)) (now (lon .entry)) (now (text .entry)) .lon ⌝ }
 {
-    let mut at = scanner::begin();
+    let mut at = Scan::new();
     let mut i: usize = 0;
     while i < text.len() {
         match take(at, text[i], room, lat, lon) {

@@ -3,13 +3,13 @@ use super::Scan;
 use super::Step;
 use decimal::Number;
 use decimal::Pushed;
-use figures::Nad27;
 use figures::Refusal;
 use grid::Header;
+use slices::least;
 ghost use mathlib.Core.Path.{_≡_};
 ghost use mathlib.Core.Bool.{_&&_, _||_, cond};
-ghost use Prim.Native.Nat.{_≤_, _<_, min};
-ghost use Rattle.grid_reader.specs.Scan.{colsAt, formAt, lineEnd, lineAt, start, departs, to, filled, headerNumberEnd, headerEnd, nodeEnd, countEnd, closed, leads, withNumber, grown, numberStep, literalStep, step};
+ghost use Prim.Native.Nat.{_≤_};
+ghost use Rattle.grid_reader.specs.Scan.{formAt, lineEnd, lineAt, departs, filled, headerEnd, nodeEnd, countEnd, closed, leads, grown, numberStep, literalStep, step};
 
 // A `#` stands for a number. The node line comes once for each node.
 const FORM: [u8; WHOLE] =
@@ -40,26 +40,6 @@ const COUNT: usize = END_LINE + 4;
 
 pub(crate) const WHOLE: usize = COUNT + 2;
 
-pub(crate) fn begin() -> Scan
-    ensures { λ r. ⌜ r ≡ start ⌝ }
-{
-    Scan {
-        at: 0,
-        number: Number::new(),
-        header: Header {
-            south: Nad27(0),
-            west: Nad27(0),
-            dlat: 0,
-            dlon: 0,
-            rows: 0,
-            cols: 0,
-        },
-        count: 0,
-        node: 0,
-        lat: 0,
-    }
-}
-
 // The state after one more byte. `room` is the length of the shorter node slice.
 pub(crate) fn advance(s: Scan, byte: u8, room: usize) -> Step
     ensures { λ r. ⌜ r ≡ step room s byte ⌝ }
@@ -79,7 +59,7 @@ fn literal_step(s: Scan, byte: u8) -> Step
     if byte != form_at(s.at) {
         return depart(s);
     }
-    Step::On(move_to(s, s.at + 1))
+    Step::On(s.at_place(s.at + 1))
 }
 
 fn number_step(s: Scan, byte: u8, room: usize) -> Step
@@ -105,25 +85,11 @@ fn grow(s: Scan, number: Number) -> Step
 {
     if s.at == COUNT {
         if leads(number, s.count) {
-            return Step::On(with_number(s, number));
+            return Step::On(s.with_number(number));
         }
         return depart(s);
     }
-    Step::On(with_number(s, number))
-}
-
-fn with_number(s: Scan, number: Number) -> Scan
-    ensures { λ r. ⌜ r ≡ withNumber s number ⌝ }
-{
-    let header = s.header;
-    Scan {
-        at: s.at,
-        number,
-        header,
-        count: s.count,
-        node: s.node,
-        lat: s.lat,
-    }
+    Step::On(s.with_number(number))
 }
 
 // Whether the digits of a number are the first of those of `count`, which has at most four.
@@ -147,40 +113,18 @@ fn close(s: Scan, x: i64, room: usize) -> Step
 {
     let header = s.header;
     if s.at < COLS {
-        return end_header_number(s, x);
+        return Step::On(s.with_header(fill(s.at, x, header)).at_place(s.at + 2));
     }
     if s.at == COLS {
-        return end_header(fill(COLS, x, header), room);
+        return end_header(s.with_header(fill(COLS, x, header)), room);
     }
     if s.at == LAT {
-        return Step::On(Scan {
-            at: LON,
-            number: Number::new(),
-            header,
-            count: s.count,
-            node: s.node,
-            lat: x,
-        });
+        return Step::On(s.with_lat(x).at_place(LON));
     }
     if s.at == LON {
         return end_node(s, x);
     }
     end_count(s)
-}
-
-fn end_header_number(s: Scan, x: i64) -> Step
-    requires { ⌜ s .at < colsAt ⌝ }
-    ensures { λ r. ⌜ r ≡ headerNumberEnd s x ⌝ }
-{
-    let header = s.header;
-    Step::On(Scan {
-        at: s.at + 2,
-        number: Number::new(),
-        header: fill(s.at, x, header),
-        count: s.count,
-        node: s.node,
-        lat: s.lat,
-    })
 }
 
 // The header with the number of a place.
@@ -189,14 +133,14 @@ fn fill(place: usize, x: i64, h: Header) -> Header
 {
     let south = h.south;
     let west = h.west;
-    Header {
-        south: Nad27(pick(place == SOUTH, x, south.0)),
-        west: Nad27(pick(place == WEST, x, west.0)),
-        dlat: pick(place == DLAT, x, h.dlat),
-        dlon: pick(place == DLON, x, h.dlon),
-        rows: pick(place == ROWS, x, h.rows),
-        cols: pick(place == COLS, x, h.cols),
-    }
+    Header::new(
+        pick(place == SOUTH, x, south.0),
+        pick(place == WEST, x, west.0),
+        pick(place == DLAT, x, h.dlat),
+        pick(place == DLON, x, h.dlon),
+        pick(place == ROWS, x, h.rows),
+        pick(place == COLS, x, h.cols),
+    )
 }
 
 fn pick(yes: bool, x: i64, y: i64) -> i64
@@ -206,9 +150,10 @@ fn pick(yes: bool, x: i64, y: i64) -> i64
 }
 
 // The header is whole: its rules, then the room for its nodes.
-fn end_header(h: Header, room: usize) -> Step
-    ensures { λ r. ⌜ r ≡ headerEnd room h ⌝ }
+fn end_header(s: Scan, room: usize) -> Step
+    ensures { λ r. ⌜ r ≡ headerEnd room s ⌝ }
 {
+    let h = s.header;
     let rule = h.broken_rule();
     if rule != 0 {
         return Step::Refused(Refusal::Rule(rule));
@@ -218,14 +163,7 @@ fn end_header(h: Header, room: usize) -> Step
     if room < n {
         return Step::Refused(Refusal::NodeRoom(n));
     }
-    Step::On(Scan {
-        at: NODE_LINE,
-        number: Number::new(),
-        header: h,
-        count: n as u16,
-        node: 0,
-        lat: 0,
-    })
+    Step::On(s.with_count(n as u16).at_place(NODE_LINE))
 }
 
 // The line of a node is whole: its range, then whether another node follows.
@@ -236,21 +174,9 @@ fn end_node(s: Scan, lon: i64) -> Step
         return Step::Refused(Refusal::Range(s.node as usize));
     }
     if (s.node as u32 + 1) < s.count as u32 {
-        let header = s.header;
-        return Step::Node(
-            Scan {
-                at: NODE_LINE,
-                number: Number::new(),
-                header,
-                count: s.count,
-                node: s.node + 1,
-                lat: s.lat,
-            },
-            s.lat,
-            lon,
-        );
+        return Step::Node(s.next_node().at_place(NODE_LINE), s.lat, lon);
     }
-    Step::Node(move_to(s, END_LINE), s.lat, lon)
+    Step::Node(s.at_place(END_LINE), s.lat, lon)
 }
 
 fn end_count(s: Scan) -> Step
@@ -258,24 +184,9 @@ fn end_count(s: Scan) -> Step
 {
     let number = s.number;
     if number.magnitude == s.count as u64 {
-        return Step::On(move_to(s, WHOLE));
+        return Step::On(s.at_place(WHOLE));
     }
     depart(s)
-}
-
-// On to a place of the form, with no number under way.
-fn move_to(s: Scan, place: usize) -> Scan
-    ensures { λ r. ⌜ r ≡ to s place ⌝ }
-{
-    let header = s.header;
-    Scan {
-        at: place,
-        number: Number::new(),
-        header,
-        count: s.count,
-        node: s.node,
-        lat: s.lat,
-    }
 }
 
 // The text departs from the form.
@@ -297,12 +208,6 @@ pub(crate) fn line_at(at: usize, node: u16) -> usize
         i += 1;
     }
     1 + lines + node as usize
-}
-
-pub(crate) fn least(a: usize, b: usize) -> usize
-    ensures { λ r. ⌜ r ≡ min a b ⌝ }
-{
-    if a < b { a } else { b }
 }
 
 // 1 where a line of the form ends, else 0.

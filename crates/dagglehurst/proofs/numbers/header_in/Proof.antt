@@ -1,4 +1,5 @@
 use borrow.Author.Needs.{needs}
+use mathlib.Core.Path.{_∙_}
 use Rattle.grid.specs.Grid.{header}
 use Rattle.dagglehurst.specs.Header.{headerIn}
 use Rattle.laws.specs.Tests.{told}
@@ -23,17 +24,20 @@ number-at-requires-5 c κs = search needs
 number-at-requires-6 : tie.Need-number-at-requires-6
 number-at-requires-6 c κs = search needs
 
+new-requires : tie.Need-new-requires
+new-requires c κs = search needs
+
 returns : tie.Need-returns
 unfolding headerIn
 returns c =
-    let s = c .before .before .before .before .before in
-    let south = told (search needs) (s .number-at .ensures) in
-    let west = told (search needs) (c .before .before .before .before .number-at2 .ensures) in
-    let dlat = told (search needs) (c .before .before .before .number-at3 .ensures) in
-    let dlon = told (search needs) (c .before .before .number-at4 .ensures) in
-    let rows = told (search needs) (c .before .number-at5 .ensures) in
-    let cols = told (search needs) (c .number-at6 .ensures) in
-    λ i. header (south i) (west i) (dlat i) (dlon i) (rows i) (cols i)
+    let l = c .before in
+    let south = told (search needs) (l .before .before .before .before .before .number-at .ensures) in
+    let west = told (search needs) (l .before .before .before .before .number-at2 .ensures) in
+    let dlat = told (search needs) (l .before .before .before .number-at3 .ensures) in
+    let dlon = told (search needs) (l .before .before .number-at4 .ensures) in
+    let rows = told (search needs) (l .before .number-at5 .ensures) in
+    let cols = told (search needs) (l .number-at6 .ensures) in
+    c .new .ensures ∙ (λ i. header (south i) (west i) (dlat i) (dlon i) (rows i) (cols i))
 
 pub header-in-spec : {M : Type 1} → statement M
 header-in-spec =
@@ -45,4 +49,5 @@ header-in-spec =
     number-at-requires-4
     number-at-requires-5
     number-at-requires-6
+    new-requires
     returns)

@@ -11,7 +11,7 @@ use Rattle.grid_reader.proofs.nodes.scan.Tie as tie
 use Rattle.grid_reader.proofs.nodes.scan.Reads as reads
 use Rattle.grid_reader.proofs.nodes.scan.Lts as lts
 use Rattle.grid_reader.proofs.nodes.take.Reads as take-reads
-use Rattle.grid_reader.proofs.scanner.begin.Reads as begin-reads
+use Rattle.grid_reader.proofs.Scan.new.Reads as new-reads
 
 abbrev Inv-loop : tie.InvT-loop
 Inv-loop text room lat₀ lon₀ at₀ i₀ lat lon at i =
@@ -24,20 +24,20 @@ abbrev μ-loop : tie.MeasureT-loop
 μ-loop text room lat₀ lon₀ at₀ i₀ lat lon at i = length text - i
 
 -- after a byte
-module _ (c : lts.After-take (begin-reads.Asked, begin-reads.Learnt, take-reads.Asked, take-reads.Learnt) reads.Pre reads.Post Inv-loop μ-loop) where
+module _ (c : lts.After-take (new-reads.Asked, new-reads.Learnt, take-reads.Asked, take-reads.Learnt) reads.Pre reads.Post Inv-loop μ-loop) where
   lengths : (length (c .take .last .1 .1 .1 .0) ≡ length (c .before .before .before .before .before .before .before .before .args .lat .now))
       × (length (c .take .last .1 .1 .1 .1 .0) ≡ length (c .before .before .before .before .before .before .before .before .args .lon .now))
   lengths =
       let l = c .before .before .before .before .before .loop .inv in
       (ap length (c .take .ensures .1 .0) ∙ taken-lengths _ _ _ _ .0 ∙ l .2, ap length (c .take .ensures .1 .1) ∙ taken-lengths _ _ _ _ .1 ∙ l .3)
 
-begin-requires : tie.Need-begin-requires Inv-loop μ-loop
-begin-requires c κs = search needs
+new-requires : tie.Need-new-requires Inv-loop μ-loop
+new-requires c κs = search needs
 
 loop-holds : tie.Need-loop-holds Inv-loop μ-loop
 loop-holds c =
     let a = c .before .before .args in
-    (omega arith, ap (λ s. fed (a .room) (Taken.On s) (a .lat .now) (a .lon .now) (a .text .now)) (c .begin .ensures), refl, refl)
+    (omega arith, ap (λ s. fed (a .room) (Taken.On s) (a .lat .now) (a .lon .now) (a .text .now)) (c .new .ensures), refl, refl)
 
 shared-slice-read-take : tie.Need-shared-slice-read-take Inv-loop μ-loop
 shared-slice-read-take c = search needs
@@ -94,7 +94,7 @@ scan-spec =
     (tie.spec
     Inv-loop
     μ-loop
-    begin-requires
+    new-requires
     loop-holds
     shared-slice-read-take
     take-requires
