@@ -1,10 +1,11 @@
 pub mod Places
+pub mod Steps
 pub mod Feeding
-pub mod Counted
 pub mod Onward
 pub mod Pieces
 pub mod NodesSoFar
 pub mod Count
+pub mod Reached
 pub mod LineByLine
 pub mod Endings
 pub mod Cuts
@@ -12,6 +13,5 @@ pub mod FormLaws
 pub mod ReadSoFar
 pub mod NumberEnds
 pub mod SoFarLaws
-pub mod Open
 pub mod Hopeless
 pub mod Refusals

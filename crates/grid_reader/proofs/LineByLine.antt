@@ -5,7 +5,6 @@ use mathlib.Core.Bool.{Bool, true, false, not, _&&_, _||_, cond}
 use mathlib.Core.List.{List, [], _∷_, _++_}
 use mathlib.Core.Logic.{inl}
 use native.Mathlib.Omega.{arith}
-use native.Mathlib.Nat.{mul-le-mul-right}
 use native.Mathlib.Numerals.{add-one}
 use borrow.Author.Tests.{ltb-true, ltb-false, eqb-true, lt-ltb, le-ltb}
 use lib.Dec.{ltb, eqb}
@@ -25,7 +24,6 @@ use Rattle.grid.specs.Rules.{brokenRule, shape, nodeCount}
 use Rattle.grid.specs.Nodes.{beyondRange}
 use Rattle.grid.specs.Check.{layout, steepness}
 use Rattle.grid.specs.declared.Header.{Header}
-use Rattle.grid.proofs.RuleLaws.{rules-hold, extent}
 use Rattle.grid_reader.specs.Reading.{fixed, word, field, comma, nothing, ending, nodes, reading}
 use Rattle.grid_reader.specs.Scan.{form, toLineAt, southLineAt, westLineAt, dlatLineAt, dlonLineAt, rowsLineAt, colsLineAt, colsAt, nodeLineAt, lonAt, endLineAt, countAt, wholeAt, lineEnd, linesBefore, lineAt, scan, start, filled, headerEnd, nodeEnd, closed, literalStep, step, fed, finished}
 use Rattle.grid_reader.specs.declared.Step.{Step}
@@ -33,7 +31,7 @@ use Rattle.grid_reader.specs.declared.Taken.{Taken}
 use Rattle.grid_reader.proofs.Onward.{readFrom, onward, one-byte}
 use Rattle.grid_reader.proofs.Pieces.{isPiece, isMark, marked, literals, numbers}
 use Rattle.grid_reader.proofs.Count.{counts}
-use Rattle.grid_reader.proofs.NodesSoFar.{NodesSoFar, no-node, one-node, left-to-judge}
+use Rattle.grid_reader.proofs.NodesSoFar.{NodesSoFar, node-count, no-node, one-node, left-to-judge}
 
 -- ---- a key and a number
 
@@ -54,14 +52,6 @@ module _ (room : ℕ) (h : Header) (c k : ℕ) (x : ℤ) (lat lon : List ℤ) wh
       let b = both (isPiece a l key) (isMark (a + length key) stop l) e in
       literals room h c k x lat lon key a l (b .0) t
       ∙ ap (fixed (lineAt a k) key t) (λ i u. numbers room h c k x lat lon (marked (a + length key) stop l (b .1)) next f g none good-none u i)
-
--- ---- the number of nodes
-
--- a header that breaks no rule has nodes, and not too many
-pub node-count : (h : Header) → brokenRule h ≡ 0 → (0 < nodeCount h) × (nodeCount h ≤ 2048)
-node-count h e =
-    let sizes = extent (rules-hold h e) in
-    (omega (arith, sizes .rows-low, sizes .cols-low, mul-le-mul-right (shape h .cols) (sizes .rows-low)), sizes .nodes)
 
 -- ---- the end line, and what follows it
 

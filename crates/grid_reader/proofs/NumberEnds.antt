@@ -23,7 +23,7 @@ use Rattle.grid_text.specs.Text.{headerText, nodeLine, nodeLines}
 use Rattle.grid_reader.specs.Scan.{form, southAt, westAt, dlatAt, dlonAt, rowsAt, colsAt, nodeLineAt, latAt, lonAt, endLineAt, countAt, wholeAt, formAt, lineEnd, linesBefore, lineAt, scan, filled, headerEnd, nodeEnd, countEnd, closed}
 use Rattle.grid_reader.specs.SoFar.{numberAt, filledForm, linesSoFar, soFar}
 use Rattle.grid_reader.specs.declared.Step.{Step}
-use Rattle.grid_reader.proofs.LineByLine.{node-count}
+use Rattle.grid_reader.proofs.NodesSoFar.{node-count}
 use Rattle.grid_reader.proofs.FormLaws.{at-places, header-whole}
 use Rattle.grid_reader.proofs.ReadSoFar.{newlines-more, Placed, behind-is, Read, Kept}
 

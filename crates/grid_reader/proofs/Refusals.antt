@@ -2,24 +2,19 @@
 -- have had, a line without its newline its own, anything after `end` the number after it."
 use Prim.Native.Nat.{ℕ, suc, _+_, _≤_, min}
 use mathlib.Core.Path.{_≡_, refl, sym, ap, _∙_, subst}
-use mathlib.Core.Bool.{Bool, true, false, not, _&&_, _||_}
+use mathlib.Core.Bool.{Bool, true, false}
 use mathlib.Core.List.{List, [], _∷_, _++_}
 use mathlib.Core.Logic.{_⊎_, inl, inr}
 use native.Mathlib.Omega.{arith}
-use lib.Dec.{ltb, eqb}
+use lib.Dec.{eqb}
 use lib.ListN.{length, replicate, length-replicate}
 use lib.IntN.{ℤ, pos}
-use Rattle.laws.specs.Logic.{by-test}
 use Rattle.figures.specs.Outcome.{Outcome, refused}
 use Rattle.figures.specs.Refusal.{numberOf, placeOf}
 use Rattle.figures.specs.declared.Refusal.{Refusal}
-use Rattle.decimal.specs.Pushing.{pushed, valueOf}
-use Rattle.decimal.specs.declared.Pushed.{Pushed}
 use Rattle.grid.specs.Grid.{Grid}
-use Rattle.grid.specs.Rules.{brokenRule, nodeCount}
-use Rattle.grid.specs.Nodes.{beyondRange}
 use Rattle.grid_reader.specs.Reading.{reading}
-use Rattle.grid_reader.specs.Scan.{colsAt, latAt, lonAt, countAt, wholeAt, formAt, lineAt, start, withHeader, filled, headerEnd, nodeEnd, countEnd, closed, leads, grown, push, numberStep, literalStep, step, Fed, taken, fed, ended}
+use Rattle.grid_reader.specs.Scan.{wholeAt, lineAt, start, step, Fed, taken, fed, ended}
 use Rattle.grid_reader.specs.SoFar.{newlines}
 use Rattle.grid_reader.specs.declared.Scan.{Scan}
 use Rattle.grid_reader.specs.declared.Step.{Step}
@@ -28,7 +23,7 @@ use Rattle.grid_reader.proofs.Feeding.{fed-refused}
 use Rattle.grid_reader.proofs.Cuts.{fed-pieces}
 use Rattle.grid_reader.proofs.LineByLine.{line-by-line}
 use Rattle.grid_reader.proofs.SoFarLaws.{so-far}
-use Rattle.grid_reader.proofs.Open.{After}
+use Rattle.grid_reader.proofs.Steps.{After, Closes, in-header, header-whole, lat-whole, next-node, last-node, text-whole, another-count, judged, Does, literal, digit, closes, off-form, step-does}
 use Rattle.grid_reader.proofs.Hopeless.{OfForm, whole-of-form, goes-on, FirstHopeless, first-hopeless}
 
 -- the text departs from the form at a byte, in the line of that byte
@@ -51,42 +46,21 @@ module _ (room : ℕ) (s : Scan) where
   abbrev Own : Step → Type 0
   Own = After (λ _. Unit {0}) (λ r. numberOf r ≡ 1 → r ≡ Refusal.Form (lineAt (s .at) (s .node)))
 
-  header-own : (t : Scan) → Own (headerEnd room t)
-  unfolding headerEnd
-  header-own t =
-      let h = t .header in
-      by-test Own (eqb (brokenRule h) 0)
-      (λ _. by-test Own (ltb room (nodeCount h)) (λ _ q. absurd (omega arith)) (λ _. tt))
-      (λ _ q. absurd (omega arith))
+  closed-own : {x : ℤ} {z : Step} → Closes room s x z → Own z
+  closed-own (in-header l) = tt
+  closed-own (header-whole e h r f) = tt
+  closed-own (lat-whole e) = tt
+  closed-own (next-node e l) = tt
+  closed-own (last-node e l) = tt
+  closed-own (text-whole e q) = tt
+  closed-own (another-count e q) = λ _. refl
+  closed-own (judged w n) = λ q. absurd (n q)
 
-  node-own : (v : ℤ) → Own (nodeEnd s v)
-  unfolding nodeEnd
-  node-own v =
-      by-test Own (beyondRange (s .lat) || beyondRange v) (λ _ q. absurd (omega arith))
-      (λ _. by-test Own (ltb (s .node + 1) (s .count)) (λ _. tt) (λ _. tt))
-
-  closed-own : (v : ℤ) → Own (closed room s v)
-  unfolding closed countEnd
-  closed-own v =
-      by-test Own (ltb (s .at) colsAt) (λ _. tt)
-      (λ _. by-test Own (eqb (s .at) colsAt) (λ _. header-own (withHeader s (filled colsAt v (s .header))))
-      (λ _. by-test Own (eqb (s .at) latAt) (λ _. tt)
-      (λ _. by-test Own (eqb (s .at) lonAt) (λ _. node-own v)
-      (λ _. by-test Own (eqb (s .number .magnitude) (s .count)) (λ _. tt) (λ _ _. refl)))))
-
-  push-own : (p : Pushed) → Own (push s p)
-  unfolding grown
-  push-own (Pushed.Grown n) = by-test Own (eqb (s .at) countAt && not (leads n (s .count))) (λ _ _. refl) (λ _. tt)
-  push-own Pushed.Refused = λ _. refl
-
-  step-own : (b : ℕ) → Own (step room s b)
-  unfolding step numberStep literalStep
-  step-own b =
-      by-test Own (eqb (formAt (s .at)) 35)
-      (λ _. by-test Own (eqb b (formAt (s .at + 1)))
-      (λ _. by-test Own (s .number .begun) (λ _. closed-own (valueOf (s .number))) (λ _ _. refl))
-      (λ _. push-own (pushed (s .number) b)))
-      (λ _. by-test Own (ltb (s .at) wholeAt && eqb b (formAt (s .at))) (λ _. tt) (λ _ _. refl))
+  step-own : {b : ℕ} {z : Step} → Does room s b z → Own z
+  step-own (literal l n e) = tt
+  step-own (digit m n e f) = tt
+  step-own (closes m e g c) = closed-own c
+  step-own off-form = λ _. refl
 
 -- ---- a text: where its scanning was refused
 
@@ -164,7 +138,7 @@ module _ (text : List ℕ) (lat lon lats lons : List ℤ) (l : 2048 ≤ length l
   departs-at : (r : Refusal) → numberOf r ≡ 1 → placeOf r ≡ line → FirstRefused room start lats lons text r → Departs text line lat lon
   departs-at r p q a =
       let s = a .state in
-      let own : r ≡ Refusal.Form (lineAt (s .at) (s .node)) = subst (Own room s) (a .stops) (step-own room s (a .byte)) p in
+      let own : r ≡ Refusal.Form (lineAt (s .at) (s .node)) = subst (Own room s) (a .stops) (step-own room s (step-does room s (a .byte))) p in
       let at : lineAt (s .at) (s .node) ≡ line = sym (ap placeOf own) ∙ q in
       record {
         before = a .before;
