@@ -3,9 +3,10 @@ use Prim.Native.Nat.{ℕ, zero, suc, _+_, _-_, _≤_, _<_}
 use mathlib.Core.Path.{_≡_, refl, sym, ap, _∙_}
 use mathlib.Core.Bool.{true, false, _||_, cond}
 use mathlib.Core.List.{List, [], _∷_, _++_, append-assoc, append-nil}
+use mathlib.Core.Logic.{_⊎_, inl, inr}
 use native.Mathlib.Numerals.{add-one}
 use native.Mathlib.Omega.{arith}
-use borrow.Author.Tests.{eqb-true, ltb-true, ltb-false, lt-ltb}
+use borrow.Author.Tests.{eqb-true, ltb-false, lt-ltb}
 use lib.Dec.{ltb, eqb}
 use lib.ListN.{length, set, length-set}
 use lib.Seq.{getD-set-same, getD-set-other}
@@ -14,18 +15,19 @@ use Rattle.laws.specs.Logic.{by-test}
 use Rattle.decimal.specs.Spelling.{spell}
 use Rattle.decimal.specs.Pushing.{none, valueOf}
 use Rattle.decimal.specs.declared.Number.{Number}
-use Rattle.decimal.proofs.Grown.{good-none, value-small, good-spelled}
+use Rattle.decimal.proofs.Grown.{value-small, good-spelled}
 use Rattle.grid.specs.Rules.{brokenRule, nodeCount}
 use Rattle.grid.specs.Nodes.{beyondRange}
 use Rattle.grid.specs.declared.Header.{Header}
 use Rattle.lines.specs.Text.{pairLine}
 use Rattle.grid_text.specs.Text.{headerText, nodeLine, nodeLines}
-use Rattle.grid_reader.specs.Scan.{form, southAt, westAt, dlatAt, dlonAt, rowsAt, colsAt, nodeLineAt, latAt, lonAt, endLineAt, countAt, wholeAt, formAt, lineEnd, linesBefore, lineAt, scan, filled, headerEnd, nodeEnd, countEnd, closed}
+use Rattle.grid_reader.specs.Scan.{form, southAt, westAt, dlatAt, dlonAt, rowsAt, colsAt, nodeLineAt, latAt, lonAt, endLineAt, countAt, wholeAt, formAt, lineEnd, linesBefore, lineAt, scan, filled, headerEnd, nodeEnd, countEnd, closed, leads}
 use Rattle.grid_reader.specs.SoFar.{numberAt, filledForm, linesSoFar, soFar}
 use Rattle.grid_reader.specs.declared.Step.{Step}
-use Rattle.grid_reader.proofs.NodesSoFar.{node-count}
 use Rattle.grid_reader.proofs.FormLaws.{at-places, header-whole}
-use Rattle.grid_reader.proofs.ReadSoFar.{newlines-more, Placed, behind-is, Read, Kept}
+use Rattle.grid_reader.proofs.Count.{leads-front}
+use Rattle.grid_reader.proofs.Reached.{Reached}
+use Rattle.grid_reader.proofs.ReadSoFar.{newlines-more, Read, Kept}
 
 -- ---- the lines of the nodes
 
@@ -46,41 +48,28 @@ three a b c d = simp append-assoc
 four : (a b c d e : List ℕ) → a ++ (b ++ (c ++ d ++ e)) ≡ a ++ b ++ c ++ d ++ e
 four a b c d e = simp append-assoc
 
--- ---- the places behind the numbers
-
-in-node : (j : ℕ) {k c : ℕ} → nodeLineAt ≤ suc j → suc j < endLineAt → eqb (formAt j) 35 ≡ false → (k < c) × (c ≤ 2048) → Placed (suc j) k c
-in-node j l m e f =
-    record { inside = omega arith; behind = behind-is j refl e; early = λ n. absurd (omega arith); counted = λ _. f; last = λ n. absurd (omega arith) }
-
-in-end : (j : ℕ) {k c : ℕ} → endLineAt ≤ suc j → suc j ≤ wholeAt → eqb (formAt j) 35 ≡ false → (k < c) × (c ≤ 2048) → k + 1 ≡ c → Placed (suc j) k c
-in-end j l m e f g = record { inside = m; behind = behind-is j refl e; early = λ n. absurd (omega arith); counted = λ _. f; last = λ _. g }
-
 module _ (room : ℕ) (n : Number) (h : Header) (c k : ℕ) (x : ℤ) (lat lon : List ℤ) (w : List ℕ) (begun : n .begun ≡ true) where
   abbrev After : (b : ℕ) → Step → Type 0
   After b = Kept k lat lon (w ++ (b ∷ []))
 
   -- the byte behind the number at place a ends it
   abbrev Ends : ℕ → Type 0
-  Ends a = Read (scan a n h c k x) lat lon w → After (formAt (a + 1)) (closed room (scan a n h c k x) (valueOf n))
+  Ends a = Reached room (scan a n h c k x) → Read (scan a n h c k x) lat lon w → After (formAt (a + 1)) (closed room (scan a n h c k x) (valueOf n))
 
   -- the state behind the number
-  turned : (a : ℕ) → Read (scan a n h c k x) lat lon w → (b t : ℕ) (h′ : Header) (c′ k′ : ℕ) (x′ : ℤ) (lat′ lon′ : List ℤ)
-      → Placed t k′ c′ → length lat′ ≡ length lat → length lon′ ≡ length lon
+  turned : (a : ℕ) → Reached room (scan a n h c k x) → Read (scan a n h c k x) lat lon w → (b t : ℕ) (h′ : Header) (c′ k′ : ℕ) (x′ : ℤ) (lat′ lon′ : List ℤ)
+      → length lat′ ≡ length lat → length lon′ ≡ length lon
       → linesSoFar (scan t none h′ c′ k′ x′) lat′ lon′ ≡ linesSoFar (scan a n h c k x) lat lon ++ spell (valueOf n) ++ (b ∷ [])
       → lineAt t k′ ≡ lineAt a k + cond (eqb b 10) 1 0
       → Read (scan t none h′ c′ k′ x′) lat′ lon′ (w ++ (b ∷ []))
   unfolding soFar
-  turned a r b t h′ c′ k′ x′ lat′ lon′ p e f g l =
+  turned a o r b t h′ c′ k′ x′ lat′ lon′ e f g l =
       record {
-        good = good-none;
-        idle = λ _. refl;
-        plain = λ _. refl;
-        placed = p;
         lats = rw e (r .lats);
         lons = rw f (r .lons);
         same =
             append-nil (linesSoFar (scan t none h′ c′ k′ x′) lat′ lon′) ∙ g
-            ∙ ap (λ (u : List ℕ). linesSoFar (scan a n h c k x) lat lon ++ u ++ (b ∷ [])) (good-spelled n (r .good) begun)
+            ∙ ap (λ (u : List ℕ). linesSoFar (scan a n h c k x) lat lon ++ u ++ (b ∷ [])) (good-spelled n (o .good) begun)
             ∙ ap (λ (u : List ℕ). u ++ (b ∷ [])) (r .same);
         lines = l ∙ rw (newlines-more w b) (omega (arith, r .lines));
       }
@@ -91,79 +80,42 @@ module _ (room : ℕ) (n : Number) (h : Header) (c k : ℕ) (x : ℤ) (lat lon :
       → filledForm (numberAt (filled a (valueOf n) h)) 0 (a + 2) ≡ filledForm (numberAt h) 0 a ++ spell (valueOf n) ++ (10 ∷ [])
       → Ends a
   unfolding closed linesSoFar
-  header-ends a l e f g r =
+  header-ends a l e f g o r =
       rw (lt-ltb a colsAt l, e)
-      (turned a r 10 (a + 2) (filled a (valueOf n) h) c k x lat lon
-      (record {
-        inside = omega arith;
-        behind = behind-is (a + 1) (omega arith) (rw e);
-        early = λ _. r .placed .early (omega arith);
-        counted = λ m. absurd (omega arith);
-        last = λ m. absurd (omega arith);
-      })
-      refl refl (rw (lt-ltb a nodeLineAt (omega arith), lt-ltb (a + 2) nodeLineAt (omega arith)) g) (omega (arith, f)))
-
-  south-ends : Ends southAt
-  unfolding filledForm form filled linesBefore lineEnd
-  south-ends = header-ends southAt (omega arith) refl refl refl
-
-  west-ends : Ends westAt
-  unfolding filledForm form filled linesBefore lineEnd
-  west-ends = header-ends westAt (omega arith) refl refl refl
-
-  dlat-ends : Ends dlatAt
-  unfolding filledForm form filled linesBefore lineEnd
-  dlat-ends = header-ends dlatAt (omega arith) refl refl refl
-
-  dlon-ends : Ends dlonAt
-  unfolding filledForm form filled linesBefore lineEnd
-  dlon-ends = header-ends dlonAt (omega arith) refl refl refl
-
-  rows-ends : Ends rowsAt
-  unfolding filledForm form filled linesBefore lineEnd
-  rows-ends = header-ends rowsAt (omega arith) refl refl refl
+      (turned a o r 10 (a + 2) (filled a (valueOf n) h) c k x lat lon refl refl
+      (rw (lt-ltb a nodeLineAt (omega arith), lt-ltb (a + 2) nodeLineAt (omega arith)) g) (omega (arith, f)))
 
   -- the header is whole
   cols-ends : Ends colsAt
   unfolding closed headerEnd filled form linesBefore lineEnd linesSoFar filledForm nodeLines
-  cols-ends r =
+  cols-ends o r =
       by-test (After 10) (eqb (brokenRule whole) 0)
       (λ e. by-test (After 10) (ltb room (nodeCount whole)) (λ _. tt)
-      (λ _. turned colsAt r 10 nodeLineAt whole (nodeCount whole) k x lat lon
-      (in-node (colsAt + 1) (omega arith) (omega arith) refl (few e))
-      refl refl (same ∙ sym (header-whole whole)) (omega arith)))
+      (λ _. turned colsAt o r 10 nodeLineAt whole (nodeCount whole) k x lat lon refl refl
+      (append-nil (headerText whole ++ nodeLines lat lon k) ∙ ap (λ (j : ℕ). headerText whole ++ nodeLines lat lon j) (o .early (omega arith)) ∙ append-nil (headerText whole) ∙ sym (header-whole whole))
+      (omega arith)))
       (λ _. tt)
     where
-      none-read : k ≡ 0
-      none-read = r .placed .early (omega arith)
-
       whole : Header
       whole = filled colsAt (valueOf n) h
-
-      few : eqb (brokenRule whole) 0 ≡ true → (k < nodeCount whole) × (nodeCount whole ≤ 2048)
-      few e = let m = node-count whole (eqb-true (brokenRule whole) 0 e) in (omega (arith, m .0, none-read), m .1)
-
-      same : headerText whole ++ nodeLines lat lon k ++ [] ≡ headerText whole
-      same = append-nil (headerText whole ++ nodeLines lat lon k) ∙ ap (λ (j : ℕ). headerText whole ++ nodeLines lat lon j) none-read ∙ append-nil (headerText whole)
 
   -- ---- a node
 
   lat-ends : Ends latAt
   unfolding closed form linesBefore lineEnd linesSoFar filledForm
-  lat-ends r =
-      turned latAt r 44 lonAt h c k (valueOf n) lat lon (in-node (latAt + 1) (omega arith) (omega arith) refl (r .placed .counted (omega arith))) refl refl
+  lat-ends o r =
+      turned latAt o r 44 lonAt h c k (valueOf n) lat lon refl refl
       (three (headerText h ++ nodeLines lat lon k) (filledForm (λ _. x) nodeLineAt (latAt - nodeLineAt)) (spell (valueOf n)) (44 ∷ [])) (omega arith)
 
   lon-ends : Ends lonAt
   unfolding closed nodeEnd form linesBefore lineEnd linesSoFar filledForm nodeLine pairLine
-  lon-ends r =
+  lon-ends o r =
       by-test (After 10) (beyondRange x || beyondRange (valueOf n)) (λ _. tt)
       (λ _. by-test (After 10) (ltb (k + 1) c)
-      (λ l. turned lonAt r 10 nodeLineAt h c (k + 1) x lats lons (in-node (colsAt + 1) (omega arith) (omega arith) refl (omega (arith, ltb-true (k + 1) c l), few .1))
-      (length-set lat k x) (length-set lon k (valueOf n)) (append-nil (headerText h ++ nodeLines lats lons (k + 1)) ∙ same) (omega arith))
+      (λ _. turned lonAt o r 10 nodeLineAt h c (k + 1) x lats lons (length-set lat k x) (length-set lon k (valueOf n)) (append-nil (headerText h ++ nodeLines lats lons (k + 1)) ∙ same) (omega arith))
       (λ l.
       let q : k + 1 ≡ c = omega (arith, ltb-false (k + 1) c l, few .0) in
-      turned lonAt r 10 endLineAt h c k x lats lons (in-end (lonAt + 1) (omega arith) (omega arith) refl few q) (length-set lat k x) (length-set lon k (valueOf n))
+      turned lonAt o r 10 endLineAt h c k x lats lons (length-set lat k x) (length-set lon k (valueOf n))
       (append-nil (headerText h ++ nodeLines lats lons c) ∙ ap (λ (j : ℕ). headerText h ++ nodeLines lats lons j) (sym q) ∙ same) (omega arith)))
     where
       lats : List ℤ
@@ -173,7 +125,7 @@ module _ (room : ℕ) (n : Number) (h : Header) (c k : ℕ) (x : ℤ) (lat lon :
       lons = set lon k (valueOf n)
 
       few : (k < c) × (c ≤ 2048)
-      few = r .placed .counted (omega arith)
+      few = o .counted (omega arith)
 
       same : headerText h ++ nodeLines lats lons (k + 1) ≡ headerText h ++ nodeLines lat lon k ++ filledForm (λ _. x) nodeLineAt (lonAt - nodeLineAt) ++ spell (valueOf n) ++ (10 ∷ [])
       same =
@@ -182,18 +134,29 @@ module _ (room : ℕ) (n : Number) (h : Header) (c k : ℕ) (x : ℤ) (lat lon :
 
   -- ---- the number of nodes
 
+  -- it has no minus
+  plain : (n ≡ none) ⊎ (leads n c ≡ true) → n .negative ≡ false
+  plain (inl e) = ap (λ (i : Number). i .negative) e
+  plain (inr e) = leads-front c n e .0
+
   count-ends : Ends countAt
   unfolding closed countEnd form linesBefore lineEnd linesSoFar filledForm
-  count-ends r =
+  count-ends o r =
       by-test (After 10) (eqb (n .magnitude) c)
-      (λ e. turned countAt r 10 wholeAt h c k x lat lon
-      (in-end (countAt + 1) (omega arith) (omega arith) refl (r .placed .counted (omega arith)) (r .placed .last (omega arith)))
-      refl refl
+      (λ e. turned countAt o r 10 wholeAt h c k x lat lon refl refl
       (three (headerText h ++ nodeLines lat lon c) (filledForm (λ _. pos c) endLineAt (countAt - endLineAt)) (spell (pos c)) (10 ∷ [])
       ∙ ap (λ (v : ℤ). headerText h ++ nodeLines lat lon c ++ filledForm (λ _. pos c) endLineAt (countAt - endLineAt) ++ spell v ++ (10 ∷ []))
-      (sym (value-small n (r .good .small) ∙ rw (r .plain refl, eqb-true (n .magnitude) c e))))
+      (sym (value-small n (o .good .small) ∙ rw (plain (o .led refl), eqb-true (n .magnitude) c e))))
       (omega arith))
       (λ _. tt)
 
   pub number-ends : (a : ℕ) → formAt a ≡ 35 → Ends a
-  number-ends = at-places Ends south-ends west-ends dlat-ends dlon-ends rows-ends cols-ends lat-ends lon-ends count-ends
+  unfolding filledForm form filled linesBefore lineEnd
+  number-ends =
+      at-places Ends
+      (header-ends southAt (omega arith) refl refl refl)
+      (header-ends westAt (omega arith) refl refl refl)
+      (header-ends dlatAt (omega arith) refl refl refl)
+      (header-ends dlonAt (omega arith) refl refl refl)
+      (header-ends rowsAt (omega arith) refl refl refl)
+      cols-ends lat-ends lon-ends count-ends

@@ -18,7 +18,7 @@ use Rattle.grid_reader.specs.declared.Step.{Step}
 use Rattle.grid_reader.specs.declared.Taken.{Taken}
 use Rattle.grid_reader.proofs.Feeding.{Leaves, fed-lengths, fed-refused}
 use Rattle.grid_reader.proofs.NodesSoFar.{node-count}
-use Rattle.grid_reader.proofs.Steps.{After, Closes, in-header, header-whole, lat-whole, next-node, last-node, text-whole, another-count, judged, Does, literal, digit, closes, off-form, step-does}
+use Rattle.grid_reader.proofs.Steps.{After, Closes, in-header, header-whole, lat-whole, next-node, last-node, text-whole, another-count, judged, Does, literal, digit, closes, off-form, closed-does, step-does}
 
 -- the newline behind the header's last number, and that behind a node's, lead to another place than the next
 abbrev NoSeam : ℕ → Type 0
@@ -115,7 +115,7 @@ module _ (room : ℕ) where
       last = o .last;
       led = λ q. inr (f q);
     }
-    step-kept (closes m e g c) = closed-kept c
+    step-kept (closes m e g) = closed-kept (closed-does room s m _)
     step-kept off-form = tt
 
     pub reached-step : (b : ℕ) → Kept (step room s b)

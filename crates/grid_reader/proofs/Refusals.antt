@@ -23,7 +23,7 @@ use Rattle.grid_reader.proofs.Feeding.{fed-refused}
 use Rattle.grid_reader.proofs.Cuts.{fed-pieces}
 use Rattle.grid_reader.proofs.LineByLine.{line-by-line}
 use Rattle.grid_reader.proofs.SoFarLaws.{so-far}
-use Rattle.grid_reader.proofs.Steps.{After, Closes, in-header, header-whole, lat-whole, next-node, last-node, text-whole, another-count, judged, Does, literal, digit, closes, off-form, step-does}
+use Rattle.grid_reader.proofs.Steps.{After, Closes, in-header, header-whole, lat-whole, next-node, last-node, text-whole, another-count, judged, Does, literal, digit, closes, off-form, closed-does, step-does}
 use Rattle.grid_reader.proofs.Hopeless.{OfForm, whole-of-form, goes-on, FirstHopeless, first-hopeless}
 
 -- the text departs from the form at a byte, in the line of that byte
@@ -59,7 +59,7 @@ module _ (room : ℕ) (s : Scan) where
   step-own : {b : ℕ} {z : Step} → Does room s b z → Own z
   step-own (literal l n e) = tt
   step-own (digit m n e f) = tt
-  step-own (closes m e g c) = closed-own c
+  step-own (closes m e g) = closed-own (closed-does room s m _)
   step-own off-form = λ _. refl
 
 -- ---- a text: where its scanning was refused

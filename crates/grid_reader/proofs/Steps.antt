@@ -43,7 +43,7 @@ pub data Does (room : ℕ) (s : Scan) (b : ℕ) : Step → Type 0 where
   literal : s .at < wholeAt → (formAt (s .at) ≡ 35 → ⊥) → b ≡ formAt (s .at) → Does room s b (Step.On (atPlace s (s .at + 1)))
   digit : formAt (s .at) ≡ 35 → (n : Number) → pushed (s .number) b ≡ Pushed.Grown n → (s .at ≡ countAt → leads n (s .count) ≡ true)
       → Does room s b (Step.On (withNumber s n))
-  closes : formAt (s .at) ≡ 35 → b ≡ formAt (s .at + 1) → s .number .begun ≡ true → {z : Step} → Closes room s (valueOf (s .number)) z → Does room s b z
+  closes : formAt (s .at) ≡ 35 → b ≡ formAt (s .at + 1) → s .number .begun ≡ true → Does room s b (closed room s (valueOf (s .number)))
   off-form : Does room s b (departs s)
 
 module _ (room : ℕ) (s : Scan) where
@@ -86,7 +86,7 @@ module _ (room : ℕ) (s : Scan) where
       by-test (Does room s b) (eqb (formAt (s .at)) 35)
       (λ m. let m = eqb-true (formAt (s .at)) 35 m in
       by-test (Does room s b) (eqb b (formAt (s .at + 1)))
-      (λ e. by-test (Does room s b) (s .number .begun) (λ g. closes m (eqb-true b (formAt (s .at + 1)) e) g (closed-does m (valueOf (s .number)))) (λ _. off-form))
+      (λ e. by-test (Does room s b) (s .number .begun) (λ g. closes m (eqb-true b (formAt (s .at + 1)) e) g) (λ _. off-form))
       (λ _. pushed-does b m (pushed (s .number) b) refl))
       (λ m. by-test (Does room s b) (ltb (s .at) wholeAt && eqb b (formAt (s .at)))
       (λ t.
