@@ -1,22 +1,16 @@
 -- What every state has that a text comes to.
-use Prim.Native.Nat.{ℕ, suc, _+_, _≤_, _<_, min}
-use mathlib.Core.Path.{_≡_, refl, sym, ap, _∙_, subst}
+use Prim.Native.Nat.{ℕ, suc, _+_, _≤_, _<_}
+use mathlib.Core.Path.{_≡_, refl, ap}
 use mathlib.Core.Bool.{true}
-use mathlib.Core.List.{List, [], _∷_}
 use mathlib.Core.Logic.{_⊎_, inl, inr}
 use native.Mathlib.Omega.{arith}
-use lib.ListN.{length}
 use lib.IntN.{ℤ}
-use Rattle.figures.specs.declared.Refusal.{Refusal}
 use Rattle.decimal.specs.Pushing.{none}
 use Rattle.decimal.proofs.Grown.{Good, good-none, push-grown}
 use Rattle.grid.specs.declared.Header.{Header}
-use Rattle.grid_reader.specs.Scan.{form, colsAt, nodeLineAt, lonAt, endLineAt, countAt, wholeAt, formAt, scan, start, leads, step, taken, fed}
-use Rattle.grid_reader.specs.Needs.{Stored}
+use Rattle.grid_reader.specs.Scan.{form, colsAt, nodeLineAt, lonAt, endLineAt, countAt, wholeAt, formAt, scan, start, leads, step}
 use Rattle.grid_reader.specs.declared.Scan.{Scan}
 use Rattle.grid_reader.specs.declared.Step.{Step}
-use Rattle.grid_reader.specs.declared.Taken.{Taken}
-use Rattle.grid_reader.proofs.Feeding.{Leaves, fed-lengths, fed-refused}
 use Rattle.grid_reader.proofs.NodesSoFar.{node-count}
 use Rattle.grid_reader.proofs.Steps.{After, Closes, in-header, header-whole, lat-whole, next-node, last-node, text-whole, another-count, judged, Does, literal, digit, closes, off-form, closed-does, step-does}
 
@@ -123,34 +117,3 @@ module _ (room : ℕ) where
 
   pub reached-start : Reached room start
   reached-start = ahead (omega arith) (omega arith, omega arith) refl
-
-  -- ---- a text
-  pub reached-fed : (w : List ℕ) (s : Scan) (lat lon : List ℤ) → Reached room s → (t : Scan) → fed room (Taken.On s) lat lon w .out ≡ Taken.On t → Reached room t
-  unfolding fed taken
-  reached-fed [] s lat lon o t e = let q : s ≡ t = cc in subst (Reached room) q o
-  reached-fed (b ∷ w) s lat lon o t e = go (λ u a c p. reached-fed w u a c p t) (step room s b) (reached-step s o b) e
-    where
-      go : ((u : Scan) (a c : List ℤ) → Reached room u → fed room (Taken.On u) a c w .out ≡ Taken.On t → Reached room t)
-          → (x : Step) → Kept x → fed room (taken s lat lon x .out) (taken s lat lon x .lat) (taken s lat lon x .lon) w .out ≡ Taken.On t → Reached room t
-      go rest (Step.On u) p e = rest u lat lon p e
-      go rest (Step.Node u a c) p e = rest u _ _ p e
-      go rest (Step.Refused v) p e = absurd (stays v (sym (ap (λ f. f .out) (fed-refused room v lat lon w)) ∙ e))
-        where
-          stays : (v : Refusal) → Taken.Refused v ≡ Taken.On t → ⊥
-          stays v e = let z : _≡_ {A = ℕ} 0 1 = cc in omega arith
-
--- what `finish` asks, of a text that was read as far as s
-pub stored : {room : ℕ} (text : List ℕ) (lat lon lats lons : List ℤ) {o : Taken} {lats′ lons′ : List ℤ} → 2048 ≤ length lats → 2048 ≤ length lons
-    → room ≡ min (length lat) (length lon) → Leaves (fed room (Taken.On start) lats lons text) o lats′ lons′
-    → {s : Scan} → o ≡ Taken.On s → Stored s lats′ lons′ lat lon
-stored {room} text lat lon lats lons l m r e {s} g =
-    let c = reached-fed room text start lats lons (reached-start room) s (sym (e .0) ∙ g) in
-    let n = fed-lengths room (Taken.On start) lats lons text in
-    let p = ap length (e .1 .0) ∙ n .0 in
-    let q = ap length (e .1 .1) ∙ n .1 in
-    record {
-      in-lats = λ w. omega (arith, c .counted (omega arith));
-      in-lons = λ w. omega (arith, c .counted (omega arith));
-      in-lat = λ w. omega (arith, c .held (omega arith));
-      in-lon = λ w. omega (arith, c .held (omega arith));
-    }

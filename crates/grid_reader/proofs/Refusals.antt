@@ -125,7 +125,7 @@ module _ (text : List ℕ) (lat lon lats lons : List ℤ) (l : 2048 ≤ length l
 
   stops : (s : Scan) → fed room (Taken.On start) lats lons text .out ≡ Taken.On s → (x y : List ℤ) → ended (Taken.On s) x y ≡ refused 1 line → Stops text line lat lon
   stops s e x y f =
-      let g = goes-on room lats lons text s e in
+      let g = goes-on room lats lons l m text s e in
       record {
         more = (g .0, subst OfForm (line-by-line (text ++ g .0) lat lon lats lons l m) (g .1));
         in-line = own (eqb (s .at) wholeAt) refl ∙ so-far room lats lons l m text s e .1;

@@ -41,23 +41,29 @@ module _ (room : ℕ) where
   rest s lat lon x t = let f = taken s lat lon x in fed room (f .out) (f .lat) (f .lon) t
 
   read-text : (s : Scan) (lat lon : List ℤ) (w t : List ℕ) (u : Scan) → Reached room s → Read s lat lon w → fed room (Taken.On s) lat lon t .out ≡ Taken.On u
-      → Read u (fed room (Taken.On s) lat lon t .lat) (fed room (Taken.On s) lat lon t .lon) (w ++ t)
+      → Reached room u × Read u (fed room (Taken.On s) lat lon t .lat) (fed room (Taken.On s) lat lon t .lon) (w ++ t)
   unfolding fed taken
-  read-text s lat lon w [] u o r e = let q : s ≡ u = cc in rw (append-nil, ← q) r
+  read-text s lat lon w [] u o r e = let q : s ≡ u = cc in rw (append-nil, ← q) (o, r)
   read-text s lat lon w (b ∷ t) u o r e =
       rw (← append-assoc w (b ∷ []) t) (go (λ v x y. read-text v x y (w ++ (b ∷ [])) t u) (step room s b) (reached-step room s o b) (step-read room s o lat lon w r (step-does room s b)) e)
     where
       go : ((v : Scan) (x y : List ℤ) → Reached room v → Read v x y (w ++ (b ∷ [])) → fed room (Taken.On v) x y t .out ≡ Taken.On u
-          → Read u (fed room (Taken.On v) x y t .lat) (fed room (Taken.On v) x y t .lon) (w ++ (b ∷ []) ++ t))
+          → Reached room u × Read u (fed room (Taken.On v) x y t .lat) (fed room (Taken.On v) x y t .lon) (w ++ (b ∷ []) ++ t))
           → (z : Step) → Going room z → Kept (s .node) lat lon (w ++ (b ∷ [])) z → rest s lat lon z t .out ≡ Taken.On u
-          → Read u (rest s lat lon z t .lat) (rest s lat lon z t .lon) (w ++ (b ∷ []) ++ t)
+          → Reached room u × Read u (rest s lat lon z t .lat) (rest s lat lon z t .lon) (w ++ (b ∷ []) ++ t)
       go next (Step.On v) p k e = next v lat lon p k e
       go next (Step.Node v x y) p k e = next v (set lat (s .node) x) (set lon (s .node) y) p k e
       go next (Step.Refused q) p k e = absurd (refused-on (ap (λ (f : Fed). f .out) (sym (fed-refused room q lat lon t)) ∙ e))
 
-  pub so-far : (lat lon : List ℤ) → 2048 ≤ length lat → 2048 ≤ length lon → (w : List ℕ) (s : Scan) → fed room (Taken.On start) lat lon w .out ≡ Taken.On s
-      → (soFar s (fed room (Taken.On start) lat lon w .lat) (fed room (Taken.On start) lat lon w .lon) ≡ w) × (lineAt (s .at) (s .node) ≡ suc (newlines w))
-  so-far lat lon l m w s e = let r = read-text start lat lon [] w s (reached-start room) (read-start lat lon l m) e in (r .same, r .lines)
+  module _ (lat lon : List ℤ) (l : 2048 ≤ length lat) (m : 2048 ≤ length lon) (w : List ℕ) (s : Scan) (e : fed room (Taken.On start) lat lon w .out ≡ Taken.On s) where
+    read-start-text : Reached room s × Read s (fed room (Taken.On start) lat lon w .lat) (fed room (Taken.On start) lat lon w .lon) w
+    read-start-text = read-text start lat lon [] w s (reached-start room) (read-start lat lon l m) e
+
+    pub reached : Reached room s
+    reached = read-start-text .0
+
+    pub so-far : (soFar s (fed room (Taken.On start) lat lon w .lat) (fed room (Taken.On start) lat lon w .lon) ≡ w) × (lineAt (s .at) (s .node) ≡ suc (newlines w))
+    so-far = (read-start-text .1 .same, read-start-text .1 .lines)
 
   -- two texts that come to the same state and the same nodes are one
   pub determined : (lat lon : List ℤ) → 2048 ≤ length lat → 2048 ≤ length lon → (v w : List ℕ) (s : Scan)

@@ -3,8 +3,7 @@ use Prim.Native.Nat.{_≤_}
 use native.Mathlib.Omega.{arith}
 use lib.ListN.{length, replicate, length-replicate}
 use lib.IntN.{pos}
-use Rattle.grid_reader.proofs.Reached.{stored}
-use Rattle.grid_reader.proofs.Endings.{answers-refused, scanned}
+use Rattle.grid_reader.proofs.Endings.{answers-refused, scanned, stored}
 use Rattle.grid_reader.proofs.read.Statement.{statement}
 use Rattle.grid_reader.proofs.read.Tie as tie
 
