@@ -3,7 +3,6 @@ use Prim.Native.Nat.{ℕ, zero, suc, _+_, _≤_, _<_, min}
 use mathlib.Core.Path.{_≡_, refl, sym, ap, _∙_, subst}
 use mathlib.Core.Bool.{Bool, true, false, not, _&&_, _||_, cond}
 use mathlib.Core.List.{List, [], _∷_, _++_}
-use mathlib.Core.Logic.{inl}
 use native.Mathlib.Omega.{arith}
 use native.Mathlib.Numerals.{add-one}
 use borrow.Author.Tests.{ltb-true, ltb-false, eqb-true, lt-ltb, le-ltb}
@@ -17,7 +16,6 @@ use Rattle.figures.specs.declared.Refusal.{Refusal}
 use Rattle.laws.specs.Over.{over, over-set, over-take}
 use Rattle.decimal.specs.Pushing.{none}
 use Rattle.decimal.specs.declared.Number.{Number}
-use Rattle.decimal.proofs.Grown.{good-none}
 use Rattle.lines.specs.Text.{newline}
 use Rattle.grid.specs.Grid.{header, Grid, gridOf}
 use Rattle.grid.specs.Rules.{brokenRule, shape, nodeCount}
@@ -51,7 +49,7 @@ module _ (room : ℕ) (h : Header) (c k : ℕ) (x : ℤ) (lat lon : List ℤ) wh
       let l = linesBefore a in
       let b = both (isPiece a l key) (isMark (a + length key) stop l) e in
       literals room h c k x lat lon key a l (b .0) t
-      ∙ ap (fixed (lineAt a k) key t) (λ i u. numbers room h c k x lat lon (marked (a + length key) stop l (b .1)) next f g none good-none u i)
+      ∙ ap (fixed (lineAt a k) key t) (λ i u. numbers room h c k x lat lon (marked (a + length key) stop l (b .1)) next f g u i)
 
 -- ---- the end line, and what follows it
 
@@ -72,7 +70,7 @@ module _ (room : ℕ) (h : Header) (unbroken : brokenRule h ≡ 0) (z w : List �
   unfolding ending form linesBefore lineEnd
   ends k x xs ys e r t =
       literals room h (nodeCount h) k x (over xs z) (over ys w) (bytes "end=") endLineAt (linesBefore endLineAt) refl t
-      ∙ ap (fixed (10 + k) (bytes "end=") t) (λ i u. counts room h (nodeCount h) k x (over xs z) (over ys w) (omega (arith, few)) (node-count h unbroken .0) none good-none (inl refl) u i)
+      ∙ ap (fixed (10 + k) (bytes "end=") t) (λ i u. counts room h (nodeCount h) k x (over xs z) (over ys w) (omega (arith, few)) (node-count h unbroken .0) u i)
       ∙ ap (field (10 + k) newline (bytes "end=") t) (λ i v u. refuseIf (not (eqZ v (pos (nodeCount h)))) 1 (10 + k) (follows k x xs ys e r u i))
       ∙ ap (λ (line : ℕ). field line newline (bytes "end=") t (λ v u. refuseIf (not (eqZ v (pos (nodeCount h)))) 1 line
       (nothing (10 + nodeCount h) u (andThen (steepness (shape h) xs ys) (answered (gridOf h xs ys)))))) line-is
@@ -93,7 +91,7 @@ module _ (room : ℕ) (h : Header) (unbroken : brokenRule h ≡ 0) (z w : List �
       (λ m v. refl) (omega arith) t
       ∙ ap (field (9 + k) comma (bytes "node=") t) (λ i v u.
       (numbers room h (nodeCount h) k v (over xs z) (over ys w) (marked lonAt newline (linesBefore lonAt) refl)
-      (nodeEnd (scan lonAt none h (nodeCount h) k v)) (λ m y. refl) (omega arith) none good-none u
+      (nodeEnd (scan lonAt none h (nodeCount h) k v)) (λ m y. refl) (omega arith) u
       ∙ ap (word (9 + k) newline [] u) (λ j y r. judged v y r (beyondRange v || beyondRange y) refl j)) i)
     where
       judged : (v y : ℤ) (t : List ℕ) (d : Bool) → (beyondRange v || beyondRange y) ≡ d
