@@ -19,9 +19,10 @@ use Rattle.decimal.proofs.Grown.{value-small, good-spelled}
 use Rattle.grid.specs.Rules.{brokenRule, nodeCount}
 use Rattle.grid.specs.Nodes.{beyondRange}
 use Rattle.grid.specs.declared.Header.{Header}
-use Rattle.lines.specs.Text.{pairLine}
+use Rattle.lines.specs.Text.{newline, pairLine}
 use Rattle.grid_text.specs.Text.{headerText, nodeLine, nodeLines}
-use Rattle.grid_reader.specs.Scan.{form, southAt, westAt, dlatAt, dlonAt, rowsAt, colsAt, nodeLineAt, latAt, lonAt, endLineAt, countAt, wholeAt, formAt, lineEnd, linesBefore, lineAt, scan, filled, headerEnd, nodeEnd, countEnd, closed, leads}
+use Rattle.grid_reader.specs.Reading.{comma}
+use Rattle.grid_reader.specs.Scan.{numberSign, form, southAt, westAt, dlatAt, dlonAt, rowsAt, colsAt, nodeLineAt, latAt, lonAt, endLineAt, countAt, wholeAt, formAt, lineEnd, linesBefore, lineAt, scan, filled, headerEnd, nodeEnd, countEnd, closed, leads}
 use Rattle.grid_reader.specs.SoFar.{numberAt, filledForm, linesSoFar, soFar}
 use Rattle.grid_reader.specs.declared.Step.{Step}
 use Rattle.grid_reader.proofs.FormLaws.{at-places, header-whole}
@@ -60,7 +61,7 @@ module _ (room : ℕ) (n : Number) (h : Header) (c k : ℕ) (x : ℤ) (lat lon :
   turned : (a : ℕ) → Reached room (scan a n h c k x) → Read (scan a n h c k x) lat lon w → (b t : ℕ) (h′ : Header) (c′ k′ : ℕ) (x′ : ℤ) (lat′ lon′ : List ℤ)
       → length lat′ ≡ length lat → length lon′ ≡ length lon
       → linesSoFar (scan t none h′ c′ k′ x′) lat′ lon′ ≡ linesSoFar (scan a n h c k x) lat lon ++ spell (valueOf n) ++ (b ∷ [])
-      → lineAt t k′ ≡ lineAt a k + cond (eqb b 10) 1 0
+      → lineAt t k′ ≡ lineAt a k + cond (eqb b newline) 1 0
       → Read (scan t none h′ c′ k′ x′) lat′ lon′ (w ++ (b ∷ []))
   unfolding soFar
   turned a o r b t h′ c′ k′ x′ lat′ lon′ e f g l =
@@ -76,22 +77,22 @@ module _ (room : ℕ) (n : Number) (h : Header) (c k : ℕ) (x : ℤ) (lat lon :
 
   -- ---- the header
 
-  header-ends : (a : ℕ) → a < colsAt → formAt (a + 1) ≡ 10 → linesBefore (a + 2) ≡ linesBefore a + 1
-      → filledForm (numberAt (filled a (valueOf n) h)) 0 (a + 2) ≡ filledForm (numberAt h) 0 a ++ spell (valueOf n) ++ (10 ∷ [])
+  header-ends : (a : ℕ) → a < colsAt → formAt (a + 1) ≡ newline → linesBefore (a + 2) ≡ linesBefore a + 1
+      → filledForm (numberAt (filled a (valueOf n) h)) 0 (a + 2) ≡ filledForm (numberAt h) 0 a ++ spell (valueOf n) ++ (newline ∷ [])
       → Ends a
   unfolding closed linesSoFar
   header-ends a l e f g o r =
       rw (lt-ltb a colsAt l, e)
-      (turned a o r 10 (a + 2) (filled a (valueOf n) h) c k x lat lon refl refl
+      (turned a o r newline (a + 2) (filled a (valueOf n) h) c k x lat lon refl refl
       (rw (lt-ltb a nodeLineAt (omega arith), lt-ltb (a + 2) nodeLineAt (omega arith)) g) (omega (arith, f)))
 
   -- the header is whole
   cols-ends : Ends colsAt
   unfolding closed headerEnd filled form linesBefore lineEnd linesSoFar filledForm nodeLines
   cols-ends o r =
-      by-test (After 10) (eqb (brokenRule whole) 0)
-      (λ e. by-test (After 10) (ltb room (nodeCount whole)) (λ _. tt)
-      (λ _. turned colsAt o r 10 nodeLineAt whole (nodeCount whole) k x lat lon refl refl
+      by-test (After newline) (eqb (brokenRule whole) 0)
+      (λ e. by-test (After newline) (ltb room (nodeCount whole)) (λ _. tt)
+      (λ _. turned colsAt o r newline nodeLineAt whole (nodeCount whole) k x lat lon refl refl
       (append-nil (headerText whole ++ nodeLines lat lon k) ∙ ap (λ (j : ℕ). headerText whole ++ nodeLines lat lon j) (o .early (omega arith)) ∙ append-nil (headerText whole) ∙ sym (header-whole whole))
       (omega arith)))
       (λ _. tt)
@@ -104,18 +105,18 @@ module _ (room : ℕ) (n : Number) (h : Header) (c k : ℕ) (x : ℤ) (lat lon :
   lat-ends : Ends latAt
   unfolding closed form linesBefore lineEnd linesSoFar filledForm
   lat-ends o r =
-      turned latAt o r 44 lonAt h c k (valueOf n) lat lon refl refl
-      (three (headerText h ++ nodeLines lat lon k) (filledForm (λ _. x) nodeLineAt (latAt - nodeLineAt)) (spell (valueOf n)) (44 ∷ [])) (omega arith)
+      turned latAt o r comma lonAt h c k (valueOf n) lat lon refl refl
+      (three (headerText h ++ nodeLines lat lon k) (filledForm (λ _. x) nodeLineAt (latAt - nodeLineAt)) (spell (valueOf n)) (comma ∷ [])) (omega arith)
 
   lon-ends : Ends lonAt
   unfolding closed nodeEnd form linesBefore lineEnd linesSoFar filledForm nodeLine pairLine
   lon-ends o r =
-      by-test (After 10) (beyondRange x || beyondRange (valueOf n)) (λ _. tt)
-      (λ _. by-test (After 10) (ltb (k + 1) c)
-      (λ _. turned lonAt o r 10 nodeLineAt h c (k + 1) x lats lons (length-set lat k x) (length-set lon k (valueOf n)) (append-nil (headerText h ++ nodeLines lats lons (k + 1)) ∙ same) (omega arith))
+      by-test (After newline) (beyondRange x || beyondRange (valueOf n)) (λ _. tt)
+      (λ _. by-test (After newline) (ltb (k + 1) c)
+      (λ _. turned lonAt o r newline nodeLineAt h c (k + 1) x lats lons (length-set lat k x) (length-set lon k (valueOf n)) (append-nil (headerText h ++ nodeLines lats lons (k + 1)) ∙ same) (omega arith))
       (λ l.
       let q : k + 1 ≡ c = omega (arith, ltb-false (k + 1) c l, few .0) in
-      turned lonAt o r 10 endLineAt h c k x lats lons (length-set lat k x) (length-set lon k (valueOf n))
+      turned lonAt o r newline endLineAt h c k x lats lons (length-set lat k x) (length-set lon k (valueOf n))
       (append-nil (headerText h ++ nodeLines lats lons c) ∙ ap (λ (j : ℕ). headerText h ++ nodeLines lats lons j) (sym q) ∙ same) (omega arith)))
     where
       lats : List ℤ
@@ -127,10 +128,10 @@ module _ (room : ℕ) (n : Number) (h : Header) (c k : ℕ) (x : ℤ) (lat lon :
       few : (k < c) × (c ≤ 2048)
       few = o .counted (omega arith)
 
-      same : headerText h ++ nodeLines lats lons (k + 1) ≡ headerText h ++ nodeLines lat lon k ++ filledForm (λ _. x) nodeLineAt (lonAt - nodeLineAt) ++ spell (valueOf n) ++ (10 ∷ [])
+      same : headerText h ++ nodeLines lats lons (k + 1) ≡ headerText h ++ nodeLines lat lon k ++ filledForm (λ _. x) nodeLineAt (lonAt - nodeLineAt) ++ spell (valueOf n) ++ (newline ∷ [])
       same =
           ap (λ (t : List ℕ). headerText h ++ t) (node-more lat lon x (valueOf n) k (omega (arith, few, r .lats)) (omega (arith, few, r .lons)))
-          ∙ four (headerText h) (nodeLines lat lon k) (filledForm (λ _. x) nodeLineAt (lonAt - nodeLineAt)) (spell (valueOf n)) (10 ∷ [])
+          ∙ four (headerText h) (nodeLines lat lon k) (filledForm (λ _. x) nodeLineAt (lonAt - nodeLineAt)) (spell (valueOf n)) (newline ∷ [])
 
   -- ---- the number of nodes
 
@@ -142,15 +143,15 @@ module _ (room : ℕ) (n : Number) (h : Header) (c k : ℕ) (x : ℤ) (lat lon :
   count-ends : Ends countAt
   unfolding closed countEnd form linesBefore lineEnd linesSoFar filledForm
   count-ends o r =
-      by-test (After 10) (eqb (n .magnitude) c)
-      (λ e. turned countAt o r 10 wholeAt h c k x lat lon refl refl
-      (three (headerText h ++ nodeLines lat lon c) (filledForm (λ _. pos c) endLineAt (countAt - endLineAt)) (spell (pos c)) (10 ∷ [])
-      ∙ ap (λ (v : ℤ). headerText h ++ nodeLines lat lon c ++ filledForm (λ _. pos c) endLineAt (countAt - endLineAt) ++ spell v ++ (10 ∷ []))
+      by-test (After newline) (eqb (n .magnitude) c)
+      (λ e. turned countAt o r newline wholeAt h c k x lat lon refl refl
+      (three (headerText h ++ nodeLines lat lon c) (filledForm (λ _. pos c) endLineAt (countAt - endLineAt)) (spell (pos c)) (newline ∷ [])
+      ∙ ap (λ (v : ℤ). headerText h ++ nodeLines lat lon c ++ filledForm (λ _. pos c) endLineAt (countAt - endLineAt) ++ spell v ++ (newline ∷ []))
       (sym (value-small n (o .good .small) ∙ rw (plain (o .led refl), eqb-true (n .magnitude) c e))))
       (omega arith))
       (λ _. tt)
 
-  pub number-ends : (a : ℕ) → formAt a ≡ 35 → Ends a
+  pub number-ends : (a : ℕ) → formAt a ≡ numberSign → Ends a
   unfolding filledForm form filled linesBefore lineEnd
   number-ends =
       at-places Ends

@@ -8,7 +8,8 @@ use lib.IntN.{ℤ}
 use Rattle.decimal.specs.Pushing.{none}
 use Rattle.decimal.proofs.Grown.{Good, good-none, push-grown}
 use Rattle.grid.specs.declared.Header.{Header}
-use Rattle.grid_reader.specs.Scan.{form, colsAt, nodeLineAt, lonAt, endLineAt, countAt, wholeAt, formAt, scan, start, leads, step}
+use Rattle.lines.specs.Text.{newline}
+use Rattle.grid_reader.specs.Scan.{numberSign, form, colsAt, nodeLineAt, lonAt, endLineAt, countAt, wholeAt, formAt, scan, start, leads, step}
 use Rattle.grid_reader.specs.declared.Scan.{Scan}
 use Rattle.grid_reader.specs.declared.Step.{Step}
 use Rattle.grid_reader.proofs.NodesSoFar.{node-count}
@@ -22,7 +23,7 @@ pub record Reached (room : ℕ) (s : Scan) : Type 0 where
   pub inside : s .at ≤ wholeAt
   pub no-seam : NoSeam (s .at)
   pub good : Good (s .number)
-  pub idle : (formAt (s .at) ≡ 35 → ⊥) → s .number ≡ none
+  pub idle : (formAt (s .at) ≡ numberSign → ⊥) → s .number ≡ none
   -- in the header no node was read; behind it the nodes are counted, and there is room for them
   pub early : s .at < nodeLineAt → s .node ≡ 0
   pub counted : nodeLineAt ≤ s .at → (s .node < s .count) × (s .count ≤ 2048)

@@ -15,7 +15,7 @@ use Rattle.decimal.specs.declared.Pushed.{Pushed}
 use Rattle.decimal.proofs.Grown.{push-grown}
 use Rattle.lines.specs.Text.{newline}
 use Rattle.grid_text.specs.Text.{headerText, nodeLines}
-use Rattle.grid_reader.specs.Scan.{nodeLineAt, endLineAt, formAt, lineEnd, linesBefore, lineAt, atPlace, withNumber}
+use Rattle.grid_reader.specs.Scan.{numberSign, nodeLineAt, endLineAt, formAt, lineEnd, linesBefore, lineAt, atPlace, withNumber}
 use Rattle.grid_reader.specs.SoFar.{numberAt, filledForm, linesSoFar, soFar, newlines}
 use Rattle.grid_reader.specs.declared.Scan.{Scan}
 use Rattle.grid_reader.specs.declared.Step.{Step}
@@ -23,7 +23,7 @@ use Rattle.grid_reader.proofs.FormLaws.{form-more}
 use Rattle.grid_reader.proofs.Reached.{Reached}
 
 -- what both sides of a test have
-pub newlines-more : (w : List ℕ) (b : ℕ) → newlines (w ++ (b ∷ [])) ≡ newlines w + cond (eqb b 10) 1 0
+pub newlines-more : (w : List ℕ) (b : ℕ) → newlines (w ++ (b ∷ [])) ≡ newlines w + cond (eqb b newline) 1 0
 unfolding newlines
 newlines-more [] b = omega arith
 newlines-more (x ∷ w) b = rw (newlines-more w b) (omega arith)
@@ -45,7 +45,7 @@ Kept k lat lon w (Step.Refused r) = Unit {0}
 module _ {room : ℕ} (s : Scan) (o : Reached room s) (lat lon : List ℤ) where
   -- ---- a fixed byte
 
-  lines-more : eqb (formAt (s .at)) 35 ≡ false → linesSoFar (atPlace s (s .at + 1)) lat lon ≡ linesSoFar s lat lon ++ (formAt (s .at) ∷ [])
+  lines-more : eqb (formAt (s .at)) numberSign ≡ false → linesSoFar (atPlace s (s .at + 1)) lat lon ≡ linesSoFar s lat lon ++ (formAt (s .at) ∷ [])
   unfolding linesSoFar
   lines-more e = go (ltb a nodeLineAt) refl (ltb a endLineAt) refl
     where
@@ -73,14 +73,14 @@ module _ {room : ℕ} (s : Scan) (o : Reached room s) (lat lon : List ℤ) where
           rw (f, g, le-ltb (a + 1) nodeLineAt (omega arith), le-ltb (a + 1) endLineAt (omega arith)) (behind (s .count) (pos (s .count)) endLineAt m)
 
   module _ (w : List ℕ) (r : Read s lat lon w) where
-    pub literal-read : (formAt (s .at) ≡ 35 → ⊥) → Read (atPlace s (s .at + 1)) lat lon (w ++ (formAt (s .at) ∷ []))
+    pub literal-read : (formAt (s .at) ≡ numberSign → ⊥) → Read (atPlace s (s .at + 1)) lat lon (w ++ (formAt (s .at) ∷ []))
     unfolding soFar linesBefore lineEnd
     literal-read n =
         let z : linesSoFar s lat lon ≡ w = sym (append-nil (linesSoFar s lat lon)) ∙ ap (λ (n : Number). linesSoFar s lat lon ++ part n) (sym (o .idle n)) ∙ r .same in
         record {
           lats = r .lats;
           lons = r .lons;
-          same = append-nil (linesSoFar (atPlace s (s .at + 1)) lat lon) ∙ lines-more (ne-eqb (formAt (s .at)) 35 n) ∙ ap (λ (u : List ℕ). u ++ (formAt (s .at) ∷ [])) z;
+          same = append-nil (linesSoFar (atPlace s (s .at + 1)) lat lon) ∙ lines-more (ne-eqb (formAt (s .at)) numberSign n) ∙ ap (λ (u : List ℕ). u ++ (formAt (s .at) ∷ [])) z;
           lines = rw (add-one, newlines-more w (formAt (s .at))) (omega (arith, r .lines));
         }
 

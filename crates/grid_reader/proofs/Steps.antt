@@ -15,7 +15,7 @@ use Rattle.decimal.specs.declared.Pushed.{Pushed}
 use Rattle.grid.specs.Rules.{brokenRule, nodeCount}
 use Rattle.grid.specs.Nodes.{beyondRange}
 use Rattle.grid.specs.declared.Header.{Header}
-use Rattle.grid_reader.specs.Scan.{colsAt, nodeLineAt, latAt, lonAt, endLineAt, countAt, wholeAt, formAt, atPlace, withNumber, withHeader, withCount, withLat, nextNode, departs, filled, headerEnd, nodeEnd, countEnd, closed, leads, grown, push, numberStep, literalStep, step}
+use Rattle.grid_reader.specs.Scan.{numberSign, colsAt, nodeLineAt, latAt, lonAt, endLineAt, countAt, wholeAt, formAt, atPlace, withNumber, withHeader, withCount, withLat, nextNode, departs, filled, headerEnd, nodeEnd, countEnd, closed, leads, grown, push, numberStep, literalStep, step}
 use Rattle.grid_reader.specs.declared.Scan.{Scan}
 use Rattle.grid_reader.specs.declared.Step.{Step}
 use Rattle.grid_reader.proofs.Places.{next-in-header, last-number}
@@ -40,10 +40,10 @@ pub data Closes (room : ℕ) (s : Scan) (x : ℤ) : Step → Type 0 where
 
 -- the byte is b
 pub data Does (room : ℕ) (s : Scan) (b : ℕ) : Step → Type 0 where
-  literal : s .at < wholeAt → (formAt (s .at) ≡ 35 → ⊥) → b ≡ formAt (s .at) → Does room s b (Step.On (atPlace s (s .at + 1)))
-  digit : formAt (s .at) ≡ 35 → (n : Number) → pushed (s .number) b ≡ Pushed.Grown n → (s .at ≡ countAt → leads n (s .count) ≡ true)
+  literal : s .at < wholeAt → (formAt (s .at) ≡ numberSign → ⊥) → b ≡ formAt (s .at) → Does room s b (Step.On (atPlace s (s .at + 1)))
+  digit : formAt (s .at) ≡ numberSign → (n : Number) → pushed (s .number) b ≡ Pushed.Grown n → (s .at ≡ countAt → leads n (s .count) ≡ true)
       → Does room s b (Step.On (withNumber s n))
-  closes : formAt (s .at) ≡ 35 → b ≡ formAt (s .at + 1) → s .number .begun ≡ true → Does room s b (closed room s (valueOf (s .number)))
+  closes : formAt (s .at) ≡ numberSign → b ≡ formAt (s .at + 1) → s .number .begun ≡ true → Does room s b (closed room s (valueOf (s .number)))
   off-form : Does room s b (departs s)
 
 module _ (room : ℕ) (s : Scan) where
@@ -61,7 +61,7 @@ module _ (room : ℕ) (s : Scan) where
       by-test (Closes room s x) (beyondRange (s .lat) || beyondRange x) (λ _. judged (Refusal.Range (s .node)) (omega arith))
       (λ _. by-test (Closes room s x) (ltb (s .node + 1) (s .count)) (λ l. next-node e (ltb-true (s .node + 1) (s .count) l)) (λ l. last-node e (ltb-false (s .node + 1) (s .count) l)))
 
-  pub closed-does : formAt (s .at) ≡ 35 → (x : ℤ) → Closes room s x (closed room s x)
+  pub closed-does : formAt (s .at) ≡ numberSign → (x : ℤ) → Closes room s x (closed room s x)
   unfolding closed countEnd
   closed-does m x =
       by-test (Closes room s x) (ltb (s .at) colsAt) (λ l. in-header (next-in-header (s .at) m (ltb-true (s .at) colsAt l)))
@@ -73,7 +73,7 @@ module _ (room : ℕ) (s : Scan) where
       by-test (Closes room s x) (eqb (s .number .magnitude) (s .count)) (λ f. text-whole e (eqb-true (s .number .magnitude) (s .count) f))
       (λ f. another-count e (eqb-false (s .number .magnitude) (s .count) f))))))
 
-  pushed-does : (b : ℕ) → formAt (s .at) ≡ 35 → (p : Pushed) → pushed (s .number) b ≡ p → Does room s b (push s p)
+  pushed-does : (b : ℕ) → formAt (s .at) ≡ numberSign → (p : Pushed) → pushed (s .number) b ≡ p → Does room s b (push s p)
   unfolding grown
   pushed-does b m (Pushed.Grown n) e =
       by-test (Does room s b) (eqb (s .at) countAt && not (leads n (s .count))) (λ _. off-form)
@@ -83,13 +83,13 @@ module _ (room : ℕ) (s : Scan) where
   pub step-does : (b : ℕ) → Does room s b (step room s b)
   unfolding step numberStep literalStep
   step-does b =
-      by-test (Does room s b) (eqb (formAt (s .at)) 35)
-      (λ m. let m = eqb-true (formAt (s .at)) 35 m in
+      by-test (Does room s b) (eqb (formAt (s .at)) numberSign)
+      (λ m. let m = eqb-true (formAt (s .at)) numberSign m in
       by-test (Does room s b) (eqb b (formAt (s .at + 1)))
       (λ e. by-test (Does room s b) (s .number .begun) (λ g. closes m (eqb-true b (formAt (s .at + 1)) e) g) (λ _. off-form))
       (λ _. pushed-does b m (pushed (s .number) b) refl))
       (λ m. by-test (Does room s b) (ltb (s .at) wholeAt && eqb b (formAt (s .at)))
       (λ t.
       let c = both (ltb (s .at) wholeAt) (eqb b (formAt (s .at))) t in
-      literal (ltb-true (s .at) wholeAt (c .0)) (eqb-false (formAt (s .at)) 35 m) (eqb-true b (formAt (s .at)) (c .1)))
+      literal (ltb-true (s .at) wholeAt (c .0)) (eqb-false (formAt (s .at)) numberSign m) (eqb-true b (formAt (s .at)) (c .1)))
       (λ _. off-form))

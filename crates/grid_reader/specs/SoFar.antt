@@ -8,7 +8,8 @@ use Rattle.decimal.specs.Spelling.{spell}
 use Rattle.decimal.specs.Pushing.{part}
 use Rattle.grid.specs.declared.Header.{Header}
 use Rattle.grid_text.specs.Text.{headerText, nodeLines}
-use Rattle.grid_reader.specs.Scan.{southAt, westAt, dlatAt, dlonAt, rowsAt, nodeLineAt, endLineAt, formAt}
+use Rattle.lines.specs.Text.{newline}
+use Rattle.grid_reader.specs.Scan.{numberSign, southAt, westAt, dlatAt, dlonAt, rowsAt, nodeLineAt, endLineAt, formAt}
 use Rattle.grid_reader.specs.declared.Scan.{Scan}
 
 -- the number of the header at a place of the form
@@ -23,7 +24,7 @@ numberAt h i =
 -- `length` places of the form from a place on, each `#` replaced by its number
 unfoldable pub filledForm : (number : ℕ → ℤ) → (from length : ℕ) → List ℕ
 filledForm number a zero = []
-filledForm number a (suc i) = filledForm number a i ++ cond (eqb (formAt (a + i)) 35) (spell (number (a + i))) (formAt (a + i) ∷ [])
+filledForm number a (suc i) = filledForm number a i ++ cond (eqb (formAt (a + i)) numberSign) (spell (number (a + i))) (formAt (a + i) ∷ [])
 
 -- in the header; in the line of a node; in the end line
 unfoldable pub linesSoFar : Scan → (lat lon : List ℤ) → List ℕ
@@ -40,4 +41,4 @@ soFar s lat lon = linesSoFar s lat lon ++ part (s .number)
 -- the newlines of a text
 unfoldable pub newlines : List ℕ → ℕ
 newlines [] = 0
-newlines (b ∷ t) = cond (eqb b 10) 1 0 + newlines t
+newlines (b ∷ t) = cond (eqb b newline) 1 0 + newlines t

@@ -9,7 +9,7 @@ use slices::least;
 ghost use mathlib.Core.Path.{_≡_};
 ghost use mathlib.Core.Bool.{_&&_, _||_, cond};
 ghost use Prim.Native.Nat.{_≤_};
-ghost use Rattle.grid_reader.specs.Scan.{formAt, lineEnd, lineAt, departs, filled, headerEnd, nodeEnd, countEnd, closed, leads, grown, numberStep, literalStep, step};
+ghost use Rattle.grid_reader.specs.Scan.{numberSign, formAt, lineEnd, lineAt, departs, filled, headerEnd, nodeEnd, countEnd, closed, leads, grown, numberStep, literalStep, step};
 
 // A `#` stands for a number. The node line comes once for each node.
 const FORM: [u8; WHOLE] =
@@ -63,7 +63,7 @@ fn literal_step(s: Scan, byte: u8) -> Step
 }
 
 fn number_step(s: Scan, byte: u8, room: usize) -> Step
-    requires { ⌜ formAt (s .at) ≡ 35 ⌝ }
+    requires { ⌜ formAt (s .at) ≡ numberSign ⌝ }
     ensures { λ r. ⌜ r ≡ numberStep room s byte ⌝ }
 {
     let number = s.number;
