@@ -25,7 +25,8 @@ use Rattle.grid_reader.specs.Reading.{comma}
 use Rattle.grid_reader.specs.Scan.{numberSign, form, southAt, westAt, dlatAt, dlonAt, rowsAt, colsAt, nodeLineAt, latAt, lonAt, endLineAt, countAt, wholeAt, formAt, lineEnd, linesBefore, lineAt, scan, filled, headerEnd, nodeEnd, countEnd, closed, leads}
 use Rattle.grid_reader.specs.SoFar.{numberAt, filledForm, linesSoFar, soFar}
 use Rattle.grid_reader.specs.declared.Step.{Step}
-use Rattle.grid_reader.proofs.FormLaws.{at-places, header-whole}
+use Rattle.grid_reader.proofs.FormLaws.{header-whole}
+use Rattle.grid_reader.proofs.Places.{at-places}
 use Rattle.grid_reader.proofs.Count.{leads-front}
 use Rattle.grid_reader.proofs.Reached.{Reached}
 use Rattle.grid_reader.proofs.ReadSoFar.{newlines-more, Read, Kept}

@@ -8,7 +8,6 @@ use lib.IntN.{ℤ}
 use Rattle.decimal.specs.Pushing.{none}
 use Rattle.decimal.proofs.Grown.{Good, good-none, push-grown}
 use Rattle.grid.specs.declared.Header.{Header}
-use Rattle.lines.specs.Text.{newline}
 use Rattle.grid_reader.specs.Scan.{numberSign, form, colsAt, nodeLineAt, lonAt, endLineAt, countAt, wholeAt, formAt, scan, start, leads, step}
 use Rattle.grid_reader.specs.declared.Scan.{Scan}
 use Rattle.grid_reader.specs.declared.Step.{Step}
