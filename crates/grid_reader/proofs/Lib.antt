@@ -13,5 +13,7 @@ pub mod FormLaws
 pub mod ReadSoFar
 pub mod NumberEnds
 pub mod SoFarLaws
+pub mod OfForm
+pub mod GoesOn
 pub mod Hopeless
 pub mod Refusals

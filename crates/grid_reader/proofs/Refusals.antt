@@ -1,6 +1,6 @@
 -- Document 01: "For 1 the place is the line at which the text first departs from the form: a missing line has the number it would
 -- have had, a line without its newline its own, anything after `end` the number after it."
-use Prim.Native.Nat.{ℕ, suc, _+_, _≤_, min}
+use Prim.Native.Nat.{ℕ, suc, _≤_, min}
 use mathlib.Core.Path.{_≡_, refl, sym, ap, _∙_, subst}
 use mathlib.Core.Bool.{Bool, true, false}
 use mathlib.Core.List.{List, [], _∷_, _++_}
@@ -24,7 +24,9 @@ use Rattle.grid_reader.proofs.Cuts.{fed-pieces}
 use Rattle.grid_reader.proofs.LineByLine.{line-by-line}
 use Rattle.grid_reader.proofs.SoFarLaws.{so-far}
 use Rattle.grid_reader.proofs.Steps.{After, Closes, in-header, header-whole, lat-whole, next-node, last-node, text-whole, another-count, judged, Does, literal, digit, closes, off-form, closed-does, step-does}
-use Rattle.grid_reader.proofs.Hopeless.{OfForm, whole-of-form, goes-on, FirstHopeless, first-hopeless}
+use Rattle.grid_reader.proofs.OfForm.{OfForm, whole-of-form}
+use Rattle.grid_reader.proofs.GoesOn.{goes-on}
+use Rattle.grid_reader.proofs.Hopeless.{FirstHopeless, first-hopeless}
 
 -- the text departs from the form at a byte, in the line of that byte
 pub record Departs (text : List ℕ) (line : ℕ) (lat lon : List ℤ) : Type 0 where

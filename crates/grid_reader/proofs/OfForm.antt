@@ -1,0 +1,52 @@
+-- A text is of the form if its reading is not refused by 1.
+use Prim.Native.Nat.{ℕ}
+use mathlib.Core.Path.{_≡_, ap}
+use mathlib.Core.Bool.{Bool, true, false, not, _||_}
+use mathlib.Core.List.{List}
+use native.Mathlib.Omega.{arith}
+use lib.Dec.{ltb, eqb}
+use lib.ListN.{length, take}
+use lib.IntN.{ℤ}
+use Rattle.laws.specs.First.{first}
+use Rattle.figures.specs.Outcome.{Outcome, answered, refused, andThen, refuseIf}
+use Rattle.figures.proofs.Laws.{answer-not-refusal}
+use Rattle.grid.specs.Grid.{Grid, gridOf}
+use Rattle.grid.specs.Rules.{brokenRule, shape, nodeCount}
+use Rattle.grid.specs.Nodes.{outOfRange, steepAt}
+use Rattle.grid.specs.Check.{layout, steepness, nodesVerdict, verdict}
+use Rattle.grid_reader.specs.Scan.{wholeAt, ended}
+use Rattle.grid_reader.specs.declared.Scan.{Scan}
+use Rattle.grid_reader.specs.declared.Taken.{Taken}
+
+abbrev pub OfForm : {A : Type 0} → Outcome A → Type 0
+OfForm o = (line : ℕ) → o ≡ refused 1 line → ⊥
+
+pub refused-of-form : {A : Type 0} (n k : ℕ) → (n ≡ 1 → ⊥) → OfForm {A = A} (refused n k)
+refused-of-form n k f line e = f (cc)
+
+answered-of-form : {A : Type 0} (a : A) → OfForm (answered a)
+answered-of-form a line e = answer-not-refusal e
+
+refuseIf-of-form : {A : Type 0} (t : Bool) (n k : ℕ) {o : Outcome A} → (n ≡ 1 → ⊥) → OfForm o → OfForm (refuseIf t n k o)
+refuseIf-of-form true n k f g = refused-of-form n k f
+refuseIf-of-form false n k f g = g
+
+andThen-of-form : {A B : Type 0} (o : Outcome A) {q : Outcome B} → OfForm o → OfForm q → OfForm (andThen o q)
+andThen-of-form (answered a) f g = g
+andThen-of-form (refused n k) f g = refused-of-form n k (λ e. f k (ap (λ j. refused j k) e))
+
+verdict-of-form : (g : Grid) → OfForm (verdict g)
+unfolding verdict layout nodesVerdict steepness
+verdict-of-form g =
+    let n = nodeCount (g .header) in
+    let far = first (outOfRange (g .lat) (g .lon)) n in
+    let steep = first (steepAt (shape (g .header)) (g .lat) (g .lon)) n in
+    andThen-of-form (layout g)
+    (refuseIf-of-form (not (eqb (brokenRule (g .header)) 0)) 2 (brokenRule (g .header)) (omega arith)
+    (refuseIf-of-form (ltb (length (g .lat)) n || ltb (length (g .lon)) n) 5 n (omega arith) (answered-of-form tt)))
+    (refuseIf-of-form (ltb far n) 3 far (omega arith) (refuseIf-of-form (ltb steep n) 4 steep (omega arith) (answered-of-form tt)))
+
+-- a whole text is of the form
+pub whole-of-form : (s : Scan) (lat lon : List ℤ) → eqb (s .at) wholeAt ≡ true → OfForm (ended (Taken.On s) lat lon)
+whole-of-form s lat lon e =
+    rw e (andThen-of-form (verdict (gridOf (s .header) (take (s .count) lat) (take (s .count) lon))) (verdict-of-form _) (answered-of-form _))
