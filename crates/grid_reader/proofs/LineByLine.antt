@@ -70,12 +70,12 @@ module _ (room : ℕ) (h : Header) (unbroken : brokenRule h ≡ 0) (z w : List �
   unfolding ending form linesBefore lineEnd
   ends k x xs ys e r t =
       literals room h (nodeCount h) k x (over xs z) (over ys w) (bytes "end=") endLineAt (linesBefore endLineAt) refl t
-      ∙ ap (fixed (10 + k) (bytes "end=") t) (λ i u. counts room h (nodeCount h) k x (over xs z) (over ys w) (omega (arith, few)) (node-count h unbroken .0) u i)
-      ∙ ap (field (10 + k) newline (bytes "end=") t) (λ i v u. refuseIf (not (eqZ v (pos (nodeCount h)))) 1 (10 + k) (follows k x xs ys e r u i))
+      ∙ ap (fixed (lineAt endLineAt k) (bytes "end=") t) (λ i u. counts room h (nodeCount h) k x (over xs z) (over ys w) (omega (arith, few)) (node-count h unbroken .0) u i)
+      ∙ ap (field (lineAt endLineAt k) newline (bytes "end=") t) (λ i v u. refuseIf (not (eqZ v (pos (nodeCount h)))) 1 (lineAt endLineAt k) (follows k x xs ys e r u i))
       ∙ ap (λ (line : ℕ). field line newline (bytes "end=") t (λ v u. refuseIf (not (eqZ v (pos (nodeCount h)))) 1 line
       (nothing (10 + nodeCount h) u (andThen (steepness (shape h) xs ys) (answered (gridOf h xs ys)))))) line-is
     where
-      line-is : 10 + k ≡ 9 + nodeCount h
+      line-is : lineAt endLineAt k ≡ 9 + nodeCount h
       line-is = omega arith
 
   -- a node line: what is behind it is known
@@ -89,10 +89,10 @@ module _ (room : ℕ) (h : Header) (unbroken : brokenRule h ≡ 0) (z w : List �
   node-line left k x xs ys rest t =
       fields room h (nodeCount h) k x (over xs z) (over ys w) nodeLineAt comma (bytes "node=") (λ v. Step.On (scan lonAt none h (nodeCount h) k v)) refl
       (λ m v. refl) (omega arith) t
-      ∙ ap (field (9 + k) comma (bytes "node=") t) (λ i v u.
+      ∙ ap (field (lineAt nodeLineAt k) comma (bytes "node=") t) (λ i v u.
       (numbers room h (nodeCount h) k v (over xs z) (over ys w) (marked lonAt newline (linesBefore lonAt) refl)
       (nodeEnd (scan lonAt none h (nodeCount h) k v)) (λ m y. refl) (omega arith) u
-      ∙ ap (word (9 + k) newline [] u) (λ j y r. judged v y r (beyondRange v || beyondRange y) refl j)) i)
+      ∙ ap (word (lineAt lonAt k) newline [] u) (λ j y r. judged v y r (beyondRange v || beyondRange y) refl j)) i)
     where
       judged : (v y : ℤ) (t : List ℕ) (d : Bool) → (beyondRange v || beyondRange y) ≡ d
           → onward room k (over xs z) (over ys w)
@@ -148,9 +148,9 @@ module _ (lat lon lats lons : List ℤ) (roomy-z : 2048 ≤ length lats) (roomy-
           (node-lines room h e lats lons roomy-z roomy-w left 0 (pos 0) [] [] (omega (arith, q)) no-node t)
 
   -- the eight lines are whole
-  judged : (n : Number) (h : Header) (t : List ℕ) → onward room 0 lats lons (headerEnd room (scan colsAt n h 0 0 (pos 0))) t ≡ andThen (layout (gridOf h lat lon)) (nodes h (nodeCount h) 0 [] [] t)
+  judged : (h : Header) (t : List ℕ) → onward room 0 lats lons (headerEnd room (scan colsAt none h 0 0 (pos 0))) t ≡ andThen (layout (gridOf h lat lon)) (nodes h (nodeCount h) 0 [] [] t)
   unfolding headerEnd layout
-  judged n h t = rules (eqb (brokenRule h) 0) refl
+  judged h t = rules (eqb (brokenRule h) 0) refl
     where
       roomy : brokenRule h ≡ 0 → (d : Bool)
           → onward room 0 lats lons (cond d (Step.Refused (Refusal.NodeRoom (nodeCount h))) (Step.On (scan nodeLineAt none h (nodeCount h) 0 (pos 0)))) t
@@ -158,7 +158,7 @@ module _ (lat lon lats lons : List ℤ) (roomy-z : 2048 ≤ length lats) (roomy-
       roomy e true = refl
       roomy e false = first-node h e t
 
-      rules : (d : Bool) → eqb (brokenRule h) 0 ≡ d → onward room 0 lats lons (headerEnd room (scan colsAt n h 0 0 (pos 0))) t ≡ andThen (layout (gridOf h lat lon)) (nodes h (nodeCount h) 0 [] [] t)
+      rules : (d : Bool) → eqb (brokenRule h) 0 ≡ d → onward room 0 lats lons (headerEnd room (scan colsAt none h 0 0 (pos 0))) t ≡ andThen (layout (gridOf h lat lon)) (nodes h (nodeCount h) 0 [] [] t)
       rules false e = rw e
       rules true e =
           rw (e, shorter (length lat) (length lon) (nodeCount h))
@@ -185,7 +185,7 @@ module _ (lat lon lats lons : List ℤ) (roomy-z : 2048 ≤ length lats) (roomy-
   cols-line h t =
       fields room h 0 0 (pos 0) lats lons colsLineAt newline (bytes "cols=") (λ v. headerEnd room (scan colsAt none (filled colsAt v h) 0 0 (pos 0))) refl
       (λ n v. refl) (omega arith) t
-      ∙ ap (field (lineAt colsLineAt 0) newline (bytes "cols=") t) (λ i v u. judged none (filled colsAt v h) u i)
+      ∙ ap (field (lineAt colsLineAt 0) newline (bytes "cols=") t) (λ i v u. judged (filled colsAt v h) u i)
 
   pub from-start : (text : List ℕ) → from 0 (start .header) text ≡ reading text lat lon
   unfolding reading filled form linesBefore lineEnd

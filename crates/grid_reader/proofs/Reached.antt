@@ -14,13 +14,13 @@ use Rattle.grid_reader.specs.declared.Step.{Step}
 use Rattle.grid_reader.proofs.NodesSoFar.{node-count}
 use Rattle.grid_reader.proofs.Steps.{After, Closes, in-header, header-whole, lat-whole, next-node, last-node, text-whole, another-count, judged, Does, literal, digit, closes, off-form, closed-does, step-does}
 
--- the newline behind the header's last number, and that behind a node's, lead to another place than the next
-abbrev NoSeam : ℕ → Type 0
-NoSeam a = (a ≡ suc colsAt → ⊥) × (a ≡ suc lonAt → ⊥)
+-- the last number of the header, and that of a node's line, is left with its newline
+abbrev PastNewline : ℕ → Type 0
+PastNewline a = (a ≡ suc colsAt → ⊥) × (a ≡ suc lonAt → ⊥)
 
 pub record Reached (room : ℕ) (s : Scan) : Type 0 where
   pub inside : s .at ≤ wholeAt
-  pub no-seam : NoSeam (s .at)
+  pub past-newline : PastNewline (s .at)
   pub good : Good (s .number)
   pub idle : (formAt (s .at) ≡ numberSign → ⊥) → s .number ≡ none
   -- in the header no node was read; behind it the nodes are counted, and there is room for them
@@ -33,10 +33,10 @@ pub record Reached (room : ℕ) (s : Scan) : Type 0 where
 
 module _ (room : ℕ) where
   -- with no number under way, in the header
-  ahead : {a c k : ℕ} {h : Header} {x : ℤ} → a < nodeLineAt → NoSeam a → k ≡ 0 → Reached room (scan a none h c k x)
+  ahead : {a c k : ℕ} {h : Header} {x : ℤ} → a < nodeLineAt → PastNewline a → k ≡ 0 → Reached room (scan a none h c k x)
   ahead l n e = record {
     inside = omega arith;
-    no-seam = n;
+    past-newline = n;
     good = good-none;
     idle = λ _. refl;
     early = λ _. e;
@@ -47,11 +47,11 @@ module _ (room : ℕ) where
   }
 
   -- and behind it
-  behind : {a c k : ℕ} {h : Header} {x : ℤ} → nodeLineAt ≤ a → a ≤ wholeAt → NoSeam a → (k < c) × (c ≤ 2048) → c ≤ room → (endLineAt ≤ a → k + 1 ≡ c)
+  behind : {a c k : ℕ} {h : Header} {x : ℤ} → nodeLineAt ≤ a → a ≤ wholeAt → PastNewline a → (k < c) × (c ≤ 2048) → c ≤ room → (endLineAt ≤ a → k + 1 ≡ c)
       → Reached room (scan a none h c k x)
   behind l m n f g e = record {
     inside = m;
-    no-seam = n;
+    past-newline = n;
     good = good-none;
     idle = λ _. refl;
     early = λ i. absurd (omega arith);
@@ -89,18 +89,18 @@ module _ (room : ℕ) where
         let r : s .at ≡ lonAt → ⊥ = λ q. n (ap formAt q) in
         record {
           inside = omega arith;
-          no-seam = (λ q. p (omega arith), λ q. r (omega arith));
+          past-newline = (λ q. p (omega arith), λ q. r (omega arith));
           good = good-none;
           idle = λ _. refl;
           early = λ i. o .early (omega arith);
-          counted = λ i. o .counted (omega (arith, o .no-seam));
-          held = λ i. o .held (omega (arith, o .no-seam));
-          last = λ i. o .last (omega (arith, o .no-seam));
+          counted = λ i. o .counted (omega (arith, o .past-newline));
+          held = λ i. o .held (omega (arith, o .past-newline));
+          last = λ i. o .last (omega (arith, o .past-newline));
           led = λ _. inl refl;
         }
     step-kept (digit m n e f) = record {
       inside = o .inside;
-      no-seam = o .no-seam;
+      past-newline = o .past-newline;
       good = push-grown (s .number) _ n e .0;
       idle = λ i. absurd (i m);
       early = o .early;

@@ -62,10 +62,10 @@ module _ {room : ℕ} (s : Scan) (o : Reached room s) (lat lon : List ℤ) where
 
       go : (x : Bool) → ltb a nodeLineAt ≡ x → (y : Bool) → ltb a endLineAt ≡ y → linesSoFar (atPlace s (a + 1)) lat lon ≡ linesSoFar s lat lon ++ (formAt a ∷ [])
       go true f y g =
-          let l : a + 1 < nodeLineAt = omega (arith, ltb-true a nodeLineAt f, o .no-seam .0) in
+          let l : a + 1 < nodeLineAt = omega (arith, ltb-true a nodeLineAt f, o .past-newline .0) in
           rw (f, lt-ltb (a + 1) nodeLineAt l) (form-more (numberAt (s .header)) 0 a a (a + 1) (omega arith) (omega arith) e)
       go false f true g =
-          let l : a + 1 < endLineAt = omega (arith, ltb-true a endLineAt g, o .no-seam .1) in
+          let l : a + 1 < endLineAt = omega (arith, ltb-true a endLineAt g, o .past-newline .1) in
           let m : nodeLineAt ≤ a = ltb-false a nodeLineAt f in
           rw (f, g, le-ltb (a + 1) nodeLineAt (omega arith), lt-ltb (a + 1) endLineAt l) (behind (s .node) (s .lat) nodeLineAt m)
       go false f false g =
