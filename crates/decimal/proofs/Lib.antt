@@ -1,3 +1,4 @@
+pub mod Pushes
 pub mod Bytes
 pub mod Signs
 pub mod Digits
