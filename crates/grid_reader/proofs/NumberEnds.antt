@@ -18,7 +18,7 @@ use Rattle.decimal.proofs.Grown.{good-none, value-small, good-spelled}
 use Rattle.grid.specs.Rules.{brokenRule, nodeCount}
 use Rattle.grid.specs.Nodes.{beyondRange}
 use Rattle.grid.specs.declared.Header.{Header}
-use Rattle.lines.specs.Text.{pairLine}
+use Rattle.lines.specs.Text.{listed, line}
 use Rattle.grid_text.specs.Text.{headerText, nodeLine, nodeLines}
 use Rattle.grid_reader.specs.Scan.{form, southAt, westAt, dlatAt, dlonAt, rowsAt, colsAt, nodeLineAt, latAt, lonAt, endLineAt, countAt, wholeAt, formAt, lineEnd, linesBefore, lineAt, scan, filled, headerNumberEnd, headerEnd, nodeEnd, countEnd, closed}
 use Rattle.grid_reader.specs.SoFar.{numberAt, filledForm, linesSoFar, soFar}
@@ -146,7 +146,7 @@ module _ (room : ℕ) (n : Number) (h : Header) (c k : ℕ) (x : ℤ) (lat lon :
       (three (headerText h ++ nodeLines lat lon k) (filledForm (λ _. x) nodeLineAt 5) (spell (valueOf n)) (44 ∷ [])) (omega arith)
 
   lon-ends : Ends lonAt
-  unfolding closed nodeEnd form linesBefore lineEnd linesSoFar filledForm nodeLine pairLine
+  unfolding closed nodeEnd form linesBefore lineEnd linesSoFar filledForm nodeLine line listed
   lon-ends r =
       by-test (After 10) (beyondRange x || beyondRange (valueOf n)) (λ _. tt)
       (λ _. by-test (After 10) (ltb (k + 1) c)

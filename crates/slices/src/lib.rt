@@ -1,5 +1,6 @@
 // Elements of lent slices, at places that they may not have.
 ghost use mathlib.Core.Path.{_≡_};
+ghost use Prim.Native.Nat.{min};
 ghost use lib.ListN.{getD, set};
 ghost use lib.IntN.{pos};
 
@@ -29,4 +30,11 @@ pub fn put_byte(bytes: &mut [u8], k: usize, byte: u8)
     if k < bytes.len() {
         bytes[k] = byte;
     }
+}
+
+// The lesser of two numbers: a place, or the end of a slice.
+pub fn least(a: usize, b: usize) -> usize
+    ensures { λ r. ⌜ r ≡ min a b ⌝ }
+{
+    if a < b { a } else { b }
 }
