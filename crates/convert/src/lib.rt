@@ -23,6 +23,7 @@ ghost use Rattle.shift.specs.Shift.{outcome};
 ghost use Rattle.convert.specs.Points.{answerOf};
 ghost use Rattle.convert.specs.Convert.{outcome83, outcome27, to83, to27, forward};
 ghost use Rattle.convert.specs.Rounds.{orZero, settle, inverse};
+ghost use Rattle.grid.specs.Nodes.{maxShift};
 
 pub enum Answer83 {
     Point(Point83),
@@ -91,7 +92,7 @@ fn forward_on<'a>(h: Header, lat: &'a [i64], lon: &'a [i64], p: Point27) -> Answ
 
 // 100 times the point plus the shift, for each coordinate.
 fn answer_of(p: Point27, s: Shift) -> Point83
-    requires { ⌜ (Within 1000000000 (p .lat .0)) × (Within 1000000000 (p .lon .0)) × (Within 6000000 (s .lat)) × (Within 6000000 (s .lon)) ⌝ }
+    requires { ⌜ (Within 1000000000 (p .lat .0)) × (Within 1000000000 (p .lon .0)) × (Within maxShift (s .lat)) × (Within maxShift (s .lon)) ⌝ }
     ensures { λ r. ⌜ r ≡ answerOf p s ⌝ }
 {
     let lat = p.lat;
@@ -115,7 +116,7 @@ fn inverse_on<'a>(h: Header, lat: &'a [i64], lon: &'a [i64], f: Point83) -> Answ
 // The candidate is the point if its answer is the figure; otherwise no point is.
 fn confirm(f: Point83, c: Found) -> Answer27
     requires { ⌜ (Within 1000000000 (c .point .lat .0)) × (Within 1000000000 (c .point .lon .0))
-        × (Within 6000000 (orZero (outcome (c .shift)) .lat)) × (Within 6000000 (orZero (outcome (c .shift)) .lon)) ⌝ }
+        × (Within maxShift (orZero (outcome (c .shift)) .lat)) × (Within maxShift (orZero (outcome (c .shift)) .lon)) ⌝ }
     ensures { λ r. ⌜ outcome27 r ≡ settle f (c .point) (mapAnswer (answerOf (c .point)) (outcome (c .shift))) ⌝ }
 {
     let p = c.point;

@@ -13,7 +13,7 @@ use numbers::put_answer;
 use numbers::put_header;
 ghost use mathlib.Core.Path.{_≡_};
 ghost use Rattle.figures.specs.Outcome.{mapAnswer};
-ghost use Rattle.lines.specs.Writing.{roomAfter};
+ghost use Rattle.writing.specs.Writing.{roomAfter};
 ghost use Rattle.grid.specs.Rules.{nodesOf};
 ghost use Rattle.grid.specs.Check.{verdict};
 ghost use Rattle.grid_text.specs.Text.{gridText};

@@ -1,11 +1,11 @@
 // The one number that an exported function answers: 256 times a value, plus the number of the refusal, or 0.
 use convert::many::Filled;
 use figures::Refusal;
-use lines::Written;
+use writing::Written;
 ghost use mathlib.Core.Path.{_≡_};
 ghost use Prim.Native.Nat.{_≤_};
 ghost use Rattle.figures.specs.Outcome.{answered, refusal};
-ghost use Rattle.lines.specs.Writing.{outcome};
+ghost use Rattle.writing.specs.Writing.{writtenOutcome};
 ghost use Rattle.convert.specs.Many.{outcome as filledOutcome};
 ghost use Rattle.dagglehurst.specs.Reply.{capped, reply};
 
@@ -31,7 +31,7 @@ pub(crate) fn too_short(needed: usize) -> u64
 }
 
 pub(crate) fn written(w: Written) -> u64
-    ensures { λ r. ⌜ r ≡ reply (outcome w) ⌝ }
+    ensures { λ r. ⌜ r ≡ reply (writtenOutcome w) ⌝ }
 {
     match w {
         Written::Bytes(n) => answered(n),

@@ -6,6 +6,5 @@ pub mod Grown
 pub mod Spelled
 pub mod Grammar
 pub mod Whole
-pub mod Over
 pub mod Magnitude
 pub mod Lengths

@@ -1,4 +1,3 @@
 pub mod Spelling
 pub mod Pushing
 pub mod Reading
-pub mod Wrote

@@ -1,13 +1,13 @@
 // Decimal numbers as text: an optional minus and 1 to 11 digits; no plus, no leading zero, no `-0`.
 mod reading;
-mod writing;
+mod spelling;
 
+use figures::Refusal;
+use writing::Written;
 ghost use mathlib.Core.Path.{_≡_};
-ghost use Prim.Native.Nat.{_≤_};
-ghost use lib.ListN.{length};
+ghost use Rattle.writing.specs.Writing.{Wrote};
 ghost use Rattle.decimal.specs.Spelling.{spell, numberIn};
 ghost use Rattle.decimal.specs.Reading.{outcome};
-ghost use Rattle.decimal.specs.Wrote.{written};
 
 // A number as far as its text was read.
 pub struct Number {
@@ -51,24 +51,23 @@ pub fn read_number(text: &[u8]) -> NumberRead
     NumberRead::Refused
 }
 
-// The bytes that a number takes.
-pub fn spelled_length(x: i64) -> usize
-    ensures { λ r. ⌜ (r ≡ length (spell x)) × (r ≤ 20) ⌝ }
+// Writes a number over the front of the room. No number takes more than 20 bytes, so most rooms are known to be long enough.
+pub fn write_number(x: i64, room: &mut [u8]) -> Written
+    ensures { λ r. ⌜ Wrote (spell x) (now (room .entry)) (now (room .exit)) r ⌝ }
 {
-    let digits = writing::digits_length(writing::magnitude(x));
-    if x < 0 {
-        return digits + 1;
+    if room.len() < 20 {
+        return write_counted(x, room);
     }
-    digits
+    Written::Bytes(spelling::put_number(x, room))
 }
 
-// Writes a number over the front of the room if the room has so many bytes, else nothing, and answers how many bytes it takes.
-pub fn write_number(x: i64, room: &mut [u8]) -> usize
-    ensures { λ r. ⌜ (r ≡ length (spell x)) × (now (room .exit) ≡ written (spell x) (now (room .entry))) ⌝ }
+// The same in any room: the bytes are counted first.
+fn write_counted(x: i64, room: &mut [u8]) -> Written
+    ensures { λ r. ⌜ Wrote (spell x) (now (room .entry)) (now (room .exit)) r ⌝ }
 {
-    let n = spelled_length(x);
-    if room.len() < n {
-        return n;
+    let needed = spelling::put_number(x, &mut room[0..0]);
+    if room.len() < needed {
+        return Written::Refused(Refusal::Room(needed));
     }
-    writing::put_number(x, room)
+    Written::Bytes(spelling::put_number(x, room))
 }

@@ -15,6 +15,13 @@ pub both-answered : {A B : Type 0} (o : Outcome A) (p : Outcome B) {b : B} → a
 both-answered (answered a) p e = ((a, refl), e)
 both-answered (refused n k) p e = let z : _≡_ {A = ℕ} 0 1 = cc in absurd (omega arith)
 
+-- "2, 5, 3, 4, then ..": the first refusal is the outcome's, and what passes leaves it to the second
+pub refused-first : {A B : Type 0} {n k : ℕ} {o : Outcome A} (p : Outcome B) → refused n k ≡ o → refused n k ≡ andThen o p
+refused-first p e = rw (← e)
+
+pub passed-first : {A B : Type 0} {a : A} {o : Outcome A} (p : Outcome B) → answered a ≡ o → p ≡ andThen o p
+passed-first p e = rw (← e)
+
 pub not-refused : {A : Type 0} (t : Bool) (n k : ℕ) (o : Outcome A) {a : A} → refuseIf t n k o ≡ answered a → (t ≡ false) × (o ≡ answered a)
 not-refused true n k o e = let z : _≡_ {A = ℕ} 0 1 = cc in absurd (omega arith)
 not-refused false n k o e = (refl, e)

@@ -13,7 +13,7 @@ use Rattle.laws.specs.First.{first-same}
 use Rattle.figures.specs.Outcome.{Outcome, answered, refused, andThen}
 use Rattle.grid.specs.Grid.{Grid, trimmed}
 use Rattle.grid.specs.Rules.{shape, nodeCount}
-use Rattle.grid.specs.Nodes.{node, beyondRange, outOfRange, tooSteep, steepEast, steepNorth, steepNode, steepAt}
+use Rattle.grid.specs.Nodes.{node, beyondRange, outOfRange, tooSteep, steepEast, steepNorth, steepAt}
 use Rattle.grid.specs.Check.{layout, steepness, nodesVerdict, verdict}
 use Rattle.grid.specs.declared.Shape.{Shape}
 use Rattle.grid.proofs.RuleLaws.{extent}
@@ -31,19 +31,22 @@ module _ (s : Shape) (some-cols : 0 < s .cols) where
   guarded true h = h refl
   guarded false h = refl
 
-  steep-front : (S : List ℤ) (k : ℕ) → k < n → steepNode s (take n S) k ≡ steepNode s S k
-  unfolding steepNode steepEast steepNorth
-  steep-front S k l = λ i.
+  east-front : (S : List ℤ) (k : ℕ) → k < n → steepEast s (take n S) k ≡ steepEast s S k
+  unfolding steepEast
+  east-front S k l =
       guarded (ltb (k % s .cols + 1) (s .cols))
-      (λ e. let f = front S (k + 1) (east-in (s .rows) (s .cols) k some-cols l (ltb-true _ _ e)) in λ j. tooSteep (s .dlon) (front S k l j) (f j)) i
-      || guarded (ltb (k + s .cols) n) (λ e. let f = front S (k + s .cols) (ltb-true _ _ e) in λ j. tooSteep (s .dlat) (front S k l j) (f j)) i
+      (λ e. let f = front S (k + 1) (east-in (s .rows) (s .cols) k some-cols l (ltb-true _ _ e)) in λ j. tooSteep (s .dlon) (front S k l j) (f j))
+
+  north-front : (S : List ℤ) (k : ℕ) → k < n → steepNorth s (take n S) k ≡ steepNorth s S k
+  unfolding steepNorth
+  north-front S k l = guarded (ltb (k + s .cols) n) (λ e. let f = front S (k + s .cols) (ltb-true _ _ e) in λ j. tooSteep (s .dlat) (front S k l j) (f j))
 
   nodes-front : (lat lon : List ℤ) → nodesVerdict s (take n lat) (take n lon) ≡ nodesVerdict s lat lon
   unfolding nodesVerdict steepness outOfRange steepAt
   nodes-front lat lon =
       rw (
         first-same (outOfRange (take n lat) (take n lon)) (outOfRange lat lon) n (λ j l i. beyondRange (front lat j l i) || beyondRange (front lon j l i)),
-        first-same (steepAt s (take n lat) (take n lon)) (steepAt s lat lon) n (λ j l i. steep-front lat j l i || steep-front lon j l i),
+        first-same (steepAt s (take n lat) (take n lon)) (steepAt s lat lon) n (λ j l i. (east-front lat j l i || east-front lon j l i) || (north-front lat j l i || north-front lon j l i)),
       )
 
 module _ (g : Grid) where

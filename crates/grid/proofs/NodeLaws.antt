@@ -11,23 +11,23 @@ use lib.Signed.{_≤ℤ_, _<ℤ_}
 use Rattle.laws.specs.Parts.{posPart, Within, ints, parts-disjoint, abs-parts}
 use Rattle.laws.specs.Bounds.{own-size}
 use Rattle.laws.specs.Expr.{machine, linear, lit, ensured-within, ensured-reads, _⊖_}
-use Rattle.laws.specs.Logic.{neither, second-fails}
+use Rattle.laws.specs.Logic.{second-fails}
 use Rattle.grid.specs.Rules.{minus}
-use Rattle.grid.specs.Nodes.{node, beyondRange, tooSteep, steepEast, steepNorth, steepNode}
+use Rattle.grid.specs.Nodes.{maxShift, node, beyondRange, tooSteep, steepEast, steepNorth}
 use Rattle.grid.specs.Needs.{InRange}
 use Rattle.grid.specs.declared.Shape.{Shape}
 use Rattle.grid.proofs.RuleLaws.{between-holds, between-true, between-within}
 
 -- a shift in its range
-pub in-range : {x : ℤ} → beyondRange x ≡ false → Within 6000000 x
+pub in-range : {x : ℤ} → beyondRange x ≡ false → Within maxShift x
 unfolding beyondRange
-in-range {x} e = between-within 6000000 (between-holds (not-false _ e)) (own-size (minus 6000000)) (own-size (pos 6000000))
+in-range {x} e = between-within maxShift (between-holds (not-false _ e)) (own-size (minus maxShift)) (own-size (pos maxShift))
 
-pub not-beyond : {x : ℤ} → Within 6000000 x → beyondRange x ≡ false
+pub not-beyond : {x : ℤ} → Within maxShift x → beyondRange x ≡ false
 unfolding beyondRange
 not-beyond {x} h =
-    let a : minus 6000000 ≤ℤ x = omega (arith, ints) in
-    let b : x ≤ℤ pos 6000000 = omega (arith, ints) in
+    let a : minus maxShift ≤ℤ x = omega (arith, ints) in
+    let b : x ≤ℤ pos maxShift = omega (arith, ints) in
     rw (between-true a b)
 
 -- the size of a difference, as the code has it
@@ -49,18 +49,18 @@ pub record Sound (s : Shape) (S : List ℤ) : Type 0 where
   pub east : (k : ℕ) → k < s .rows * s .cols → k % s .cols + 1 < s .cols → 16 * natAbs (node S (k + 1) -ℤ node S k) ≤ 100 * s .dlon
   pub north : (k : ℕ) → k + s .cols < s .rows * s .cols → 16 * natAbs (node S (k + s .cols) -ℤ node S k) ≤ 100 * s .dlat
 
-pub sound : (s : Shape) (S : List ℤ) → InRange (s .rows * s .cols) S → ((k : ℕ) → k < s .rows * s .cols → steepNode s S k ≡ false) → Sound s S
-unfolding steepNode steepEast steepNorth tooSteep
+pub sound : (s : Shape) (S : List ℤ) → InRange (s .rows * s .cols) S → ((k : ℕ) → k < s .rows * s .cols → (steepEast s S k ≡ false) × (steepNorth s S k ≡ false)) → Sound s S
+unfolding steepEast steepNorth tooSteep
 sound s S r g =
     record {
       ranged = r;
-      east = λ k l e. ltb-false _ _ (second-fails _ _ (neither (steepEast s S k) (steepNorth s S k) (g k l) .0) (lt-ltb _ _ e));
-      north = λ k e. ltb-false _ _ (second-fails _ _ (neither (steepEast s S k) (steepNorth s S k) (g k (omega arith)) .1) (lt-ltb _ _ e));
+      east = λ k l e. ltb-false _ _ (second-fails _ _ (g k l .0) (lt-ltb _ _ e));
+      north = λ k e. ltb-false _ _ (second-fails _ _ (g k (omega arith) .1) (lt-ltb _ _ e));
     }
 
 -- what `number_at` gave, read back as an argument
 module _ {n : ℕ} {S : List ℤ} (i : InRange n S) {k : ℕ} (l : k < n) {r : ℤ} (e : r ≡ node S k) where
-  pub node-within : Within 6000000 (machine r)
+  pub node-within : Within maxShift (machine r)
   node-within = ensured-within e (i .range k l) tt
 
   pub node-reads : machine r ≡ node S k

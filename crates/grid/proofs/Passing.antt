@@ -1,7 +1,7 @@
 -- Laws of the checks: each answer of the code, and what a grid that passes has. Theorems use these, never the text of `verdict`.
 use Prim.Native.Nat.{ℕ, _*_, _≤_, _<_}
 use mathlib.Core.Path.{_≡_, refl, sym, _∙_}
-use mathlib.Core.Bool.{false, not, _||_}
+use mathlib.Core.Bool.{Bool, false, not, _||_}
 use mathlib.Core.List.{List}
 use native.Mathlib.Omega.{arith}
 use lib.Dec.{ltb, eqb}
@@ -11,10 +11,10 @@ use borrow.Author.Tests.{ltb-false, lt-ltb, le-ltb, not-false, ne-eqb, eqb-true}
 use Rattle.laws.specs.First.{first, first-is, first-none}
 use Rattle.laws.specs.Logic.{neither}
 use Rattle.figures.specs.Outcome.{answered, refused}
-use Rattle.figures.proofs.Laws.{both-answered, not-refused}
+use Rattle.figures.proofs.Laws.{both-answered, not-refused, passed-first}
 use Rattle.grid.specs.Grid.{Grid}
 use Rattle.grid.specs.Rules.{brokenRule, shape, nodeCount}
-use Rattle.grid.specs.Nodes.{node, beyondRange, outOfRange, steepNode, steepAt}
+use Rattle.grid.specs.Nodes.{node, beyondRange, outOfRange, steepEast, steepNorth, steepAt}
 use Rattle.grid.specs.Check.{layout, steepness, nodesVerdict, verdict, Passes}
 use Rattle.grid.specs.Needs.{InRange}
 use Rattle.grid.specs.declared.Shape.{Shape}
@@ -66,15 +66,6 @@ module _ (s : Shape) (lat lon : List ℤ) {f : ℕ} (e : f ≡ first (outOfRange
     unfolding nodesVerdict steepness
     nodes-pass m = rw (← e, le-ltb _ _ l, ← d, le-ltb _ _ m)
 
-module _ (g : Grid) where
-  pub layout-refused : {n k : ℕ} → refused n k ≡ layout g → refused n k ≡ verdict g
-  unfolding verdict
-  layout-refused e = rw (← e)
-
-  pub layout-passes : answered tt ≡ layout g → nodesVerdict (shape (g .header)) (g .lat) (g .lon) ≡ verdict g
-  unfolding verdict
-  layout-passes e = rw (← e)
-
 -- ---- what the checks leave
 
 pub record Laid (g : Grid) : Type 0 where
@@ -100,6 +91,13 @@ pub record Good (g : Grid) : Type 0 where
   pub of-lat : Sound (shape (g .header)) (g .lat)
   pub of-lon : Sound (shape (g .header)) (g .lon)
 
+none-of : (a b c d : Bool) → ((a || b) || (c || d)) ≡ false → (a ≡ false) × (b ≡ false) × (c ≡ false) × (d ≡ false)
+none-of a b c d e =
+    let s = neither (a || b) (c || d) e in
+    let x = neither a b (s .0) in
+    let y = neither c d (s .1) in
+    (x .0, x .1, y .0, y .1)
+
 nodes-sound : (s : Shape) (lat lon : List ℤ) → nodesVerdict s lat lon ≡ answered tt → Sound s lat × Sound s lon
 unfolding nodesVerdict steepness steepAt
 nodes-sound s lat lon e =
@@ -109,9 +107,9 @@ nodes-sound s lat lon e =
     let t = not-refused (ltb f n) 3 f _ e in
     let u = not-refused (ltb g n) 4 g _ (t .1) in
     let r = ranges s lat lon refl (ltb-false _ _ (t .0)) in
-    let q : (j : ℕ) → j < n → (steepNode s lat j ≡ false) × (steepNode s lon j ≡ false) =
-    λ j l. neither _ _ (first-none (steepAt s lat lon) n (u .0) j l) in
-    (sound s lat (r .0) (λ j h. q j h .0), sound s lon (r .1) (λ j h. q j h .1))
+    let q : (j : ℕ) → j < n → (steepEast s lat j ≡ false) × (steepEast s lon j ≡ false) × (steepNorth s lat j ≡ false) × (steepNorth s lon j ≡ false) =
+    λ j l. none-of (steepEast s lat j) (steepEast s lon j) (steepNorth s lat j) (steepNorth s lon j) (first-none (steepAt s lat lon) n (u .0) j l) in
+    (sound s lat (r .0) (λ j h. (q j h .0, q j h .2)), sound s lon (r .1) (λ j h. (q j h .1, q j h .3)))
 
 pub good : (g : Grid) → Passes g → Good g
 unfolding verdict
@@ -128,11 +126,11 @@ module _ (g : Grid) where
   -- where the others pass, it decides
   pub steepness-left : brokenRule (g .header) ≡ 0 → nodeCount (g .header) ≤ length (g .lat) → nodeCount (g .header) ≤ length (g .lon)
       → ((k : ℕ) → k < nodeCount (g .header) → outOfRange (g .lat) (g .lon) k ≡ false) → verdict g ≡ steepness (shape (g .header)) (g .lat) (g .lon)
-  unfolding nodesVerdict
+  unfolding verdict nodesVerdict
   steepness-left e a b ranged =
       let count = nodeCount (g .header) in
       let none : count ≡ first (outOfRange (g .lat) (g .lon)) count = first-is (outOfRange (g .lat) (g .lon)) count count (omega arith) ranged (λ l. absurd (omega arith)) in
-      sym (layout-passes g (room g e a b)) ∙ rw (← none, le-ltb count count (omega arith))
+      sym (passed-first _ (room g e a b)) ∙ rw (← none, le-ltb count count (omega arith))
 
   pub passes-steepness : Passes g → steepness (shape (g .header)) (g .lat) (g .lon) ≡ answered tt
   unfolding verdict nodesVerdict

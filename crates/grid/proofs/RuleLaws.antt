@@ -4,7 +4,7 @@ use mathlib.Core.Path.{_≡_, refl, sym, subst, ap, _∙_}
 use mathlib.Core.Bool.{Bool, true, false, not}
 use mathlib.Core.List.{List, [], _∷_}
 use native.Mathlib.Omega.{arith}
-use borrow.Author.Tests.{not-true, not-false}
+use borrow.Author.Tests.{eq-eqb, not-true, not-false}
 use mir.Syntax.{w64}
 use mir.Val.{SFits}
 use mir.Facts.{toZ-ofZ}
@@ -15,7 +15,7 @@ use Rattle.laws.specs.Parts.{posPart, Within, ints, parts-disjoint}
 use Rattle.laws.specs.Bounds.{own-size, widen}
 use Rattle.laws.specs.Expr.{machine}
 use Rattle.laws.specs.Logic.{both, leZ-true, leZ-false, leZ-holds}
-use Rattle.grid.specs.Rules.{minus, between, lastNode, firstFalse, brokenRule, northEdge, eastEdge, shape}
+use Rattle.grid.specs.Rules.{minus, between, lastNode, firstFalse, brokenRule, northEdge, eastEdge, shape, nodeCount, nodesOf}
 use Rattle.grid.specs.Needs.{Extent}
 use Rattle.grid.specs.declared.Header.{Header}
 
@@ -146,3 +146,8 @@ extent {h} k =
       dlon-high = omega (arith, ints, k .dlon, parts-disjoint (h .dlon));
       nodes = product (k .rows .low) (k .cols .low) (k .nodes);
     }
+
+-- the nodes of a header that breaks no rule
+pub nodes-counted : (h : Header) → brokenRule h ≡ 0 → nodesOf h ≡ nodeCount h
+unfolding nodesOf
+nodes-counted h e = rw (eq-eqb (brokenRule h) 0 e)

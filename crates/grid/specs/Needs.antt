@@ -3,7 +3,7 @@ use Prim.Native.Nat.{ℕ, _*_, _≤_, _<_}
 use mathlib.Core.List.{List}
 use lib.IntN.{ℤ}
 use Rattle.laws.specs.Parts.{Within}
-use Rattle.grid.specs.Nodes.{node}
+use Rattle.grid.specs.Nodes.{maxShift, node}
 use Rattle.grid.specs.declared.Shape.{Shape}
 
 -- what rules 1 to 6 leave of the header's numbers
@@ -29,4 +29,4 @@ pub record Extent (s : Shape) : Type 0 where
 
 -- the first `n` shifts are in range
 pub record InRange (n : ℕ) (S : List ℤ) : Type 0 where
-  pub range : (k : ℕ) → k < n → Within 6000000 (node S k)
+  pub range : (k : ℕ) → k < n → Within maxShift (node S k)

@@ -12,9 +12,13 @@ use Rattle.grid.specs.declared.Shape.{Shape}
 abbrev pub node : List ℤ → ℕ → ℤ
 node S k = getD S k (pos 0)
 
+-- the largest size of a shift, 60 arc seconds
+abbrev pub maxShift : ℕ
+maxShift = 6000000
+
 -- "Each shift is from −6,000,000 to 6,000,000", denied
 unfoldable pub beyondRange : ℤ → Bool
-beyondRange x = not (between (minus 6000000) x (pos 6000000))
+beyondRange x = not (between (minus maxShift) x (pos maxShift))
 
 unfoldable pub outOfRange : (lat lon : List ℤ) → ℕ → Bool
 outOfRange lat lon k = beyondRange (node lat k) || beyondRange (node lon k)
@@ -29,8 +33,6 @@ steepEast s S k = ltb (k % s .cols + 1) (s .cols) && tooSteep (s .dlon) (node S 
 unfoldable pub steepNorth : Shape → List ℤ → ℕ → Bool
 steepNorth s S k = ltb (k + s .cols) (s .rows * s .cols) && tooSteep (s .dlat) (node S k) (node S (k + s .cols))
 
-unfoldable pub steepNode : Shape → List ℤ → ℕ → Bool
-steepNode s S k = steepEast s S k || steepNorth s S k
-
+-- "the east neighbour stands before the north one, then latitude before longitude"
 unfoldable pub steepAt : Shape → (lat lon : List ℤ) → ℕ → Bool
-steepAt s lat lon k = steepNode s lat k || steepNode s lon k
+steepAt s lat lon k = (steepEast s lat k || steepEast s lon k) || (steepNorth s lat k || steepNorth s lon k)

@@ -9,7 +9,7 @@ ghost use mathlib.Core.Path.{_≡_};
 ghost use Prim.Native.Nat.{_*_, _<_, _≤_};
 ghost use Rattle.laws.specs.Parts.{Within};
 ghost use Rattle.laws.specs.First.{first};
-ghost use Rattle.grid.specs.Nodes.{outOfRange, tooSteep, steepEast, steepNorth, steepNode, steepAt};
+ghost use Rattle.grid.specs.Nodes.{maxShift, outOfRange, tooSteep, steepEast, steepNorth, steepAt};
 ghost use Rattle.grid.specs.Check.{outcome, nodesVerdict};
 ghost use Rattle.grid.specs.Needs.{Extent, InRange};
 
@@ -58,26 +58,22 @@ fn first_steep<'a>(shape: Shape, lat: &'a [i64], lon: &'a [i64]) -> usize
     k
 }
 
+// Whether node `k` is too steep. The reasons stand in the order in which they are told.
 fn steep_at<'a>(shape: Shape, lat: &'a [i64], lon: &'a [i64], k: usize) -> bool
     requires { ⌜ Extent shape ⌝ }
     requires { ⌜ (InRange (shape .rows * shape .cols) (now lat)) × (InRange (shape .rows * shape .cols) (now lon)) × (k < shape .rows * shape .cols) ⌝ }
     ensures { λ r. ⌜ r ≡ steepAt shape (now (lat .entry)) (now (lon .entry)) k ⌝ }
 {
-    if steep_node(shape, lat, k) {
+    if steep_east(shape, lat, k) {
         return true;
     }
-    steep_node(shape, lon, k)
-}
-
-fn steep_node(shape: Shape, s: &[i64], k: usize) -> bool
-    requires { ⌜ Extent shape ⌝ }
-    requires { ⌜ (InRange (shape .rows * shape .cols) (now s)) × (k < shape .rows * shape .cols) ⌝ }
-    ensures { λ r. ⌜ r ≡ steepNode shape (now (s .entry)) k ⌝ }
-{
-    if steep_east(shape, s, k) {
+    if steep_east(shape, lon, k) {
         return true;
     }
-    steep_north(shape, s, k)
+    if steep_north(shape, lat, k) {
+        return true;
+    }
+    steep_north(shape, lon, k)
 }
 
 // The last node of a row has no east neighbour.
@@ -105,7 +101,7 @@ fn steep_north(shape: Shape, s: &[i64], k: usize) -> bool
 }
 
 fn too_steep(spacing: usize, a: i64, b: i64) -> bool
-    requires { ⌜ (spacing ≤ 900000) × (Within 6000000 a) × (Within 6000000 b) ⌝ }
+    requires { ⌜ (spacing ≤ 900000) × (Within maxShift a) × (Within maxShift b) ⌝ }
     ensures { λ r. ⌜ r ≡ tooSteep spacing a b ⌝ }
 {
     if a < b {

@@ -19,7 +19,7 @@ use Rattle.decimal.proofs.Grown.{value-small, good-spelled}
 use Rattle.grid.specs.Rules.{brokenRule, nodeCount}
 use Rattle.grid.specs.Nodes.{beyondRange}
 use Rattle.grid.specs.declared.Header.{Header}
-use Rattle.lines.specs.Text.{newline, pairLine}
+use Rattle.lines.specs.Text.{newline, listed, line}
 use Rattle.grid_text.specs.Text.{headerText, nodeLine, nodeLines}
 use Rattle.grid_reader.specs.Reading.{comma}
 use Rattle.grid_reader.specs.Scan.{numberSign, form, southAt, westAt, dlatAt, dlonAt, rowsAt, colsAt, nodeLineAt, latAt, lonAt, endLineAt, countAt, wholeAt, formAt, lineEnd, linesBefore, lineAt, scan, filled, headerEnd, nodeEnd, countEnd, closed, leads}
@@ -110,7 +110,7 @@ module _ (room : ℕ) (n : Number) (h : Header) (c k : ℕ) (x : ℤ) (lat lon :
       (three (headerText h ++ nodeLines lat lon k) (filledForm (λ _. x) nodeLineAt (latAt - nodeLineAt)) (spell (valueOf n)) (comma ∷ [])) (omega arith)
 
   lon-ends : Ends lonAt
-  unfolding closed nodeEnd form linesBefore lineEnd linesSoFar filledForm nodeLine pairLine
+  unfolding closed nodeEnd form linesBefore lineEnd linesSoFar filledForm nodeLine line listed
   lon-ends o r =
       by-test (After newline) (beyondRange x || beyondRange (valueOf n)) (λ _. tt)
       (λ _. by-test (After newline) (ltb (k + 1) c)

@@ -1,10 +1,8 @@
 -- How long the parts of a grid's text are.
 use Prim.Native.Nat.{ℕ, zero, suc, _+_, _*_, _≤_}
 use mathlib.Core.Path.{_≡_}
-use mathlib.Core.List.{List, _++_}
-use mathlib.Core.Logic.{⊎-elim}
+use mathlib.Core.List.{List, [], _∷_, _++_}
 use native.Mathlib.Omega.{arith}
-use native.Mathlib.Nat.{le-refl}
 use native.Mathlib.Numerals.{add-one}
 use lib.ListN.{length, length-append}
 use lib.Dec.{T, leb}
@@ -14,13 +12,12 @@ use Rattle.laws.specs.Bounds.{own-size, widen}
 use Rattle.laws.specs.Bytes.{bytes}
 use Rattle.decimal.specs.Spelling.{spell}
 use Rattle.decimal.proofs.Lengths.{length-spell}
-use Rattle.decimal.proofs.Digits.{lt-or-ge}
-use Rattle.lines.specs.Text.{line, pairLine}
-use Rattle.lines.proofs.Lengths.{length-line, length-pair}
+use Rattle.lines.specs.Text.{line}
+use Rattle.lines.proofs.Lengths.{length-line, length-one, length-more}
 use Rattle.grid.specs.Grid.{Grid}
 use Rattle.grid.specs.Rules.{nodeCount}
 use Rattle.grid.specs.declared.Header.{Header}
-use Rattle.grid.specs.Nodes.{node}
+use Rattle.grid.specs.Nodes.{maxShift, node}
 use Rattle.grid.specs.Check.{Passes}
 use Rattle.grid.specs.Needs.{InRange}
 use Rattle.grid.proofs.RuleLaws.{Between, between-within, RulesHold, extent}
@@ -29,34 +26,24 @@ use Rattle.grid_text.specs.Text.{headerText, nodeLine, nodeLines, gridTe
 
 pub length-node : (a b : ℤ) → length (nodeLine a b) ≡ length (spell a) + length (spell b) + 7
 unfolding nodeLine
-length-node a b = omega (arith, length-pair (bytes "node=") a b)
+length-node a b = omega (arith, length-line (bytes "node=") (a ∷ b ∷ []), length-more a b [], length-one b)
 
-pub length-header : (h : Header) → length (headerText h) ≡ 20 + length (line (bytes "south=") (h .south .0)) + length (line (bytes "west=") (h .west .0)) + length (line (bytes "dlat=") (h .dlat)) + length (line (bytes "dlon=") (h .dlon)) + length (line (bytes "rows=") (h .rows)) + length (line (bytes "cols=") (h .cols))
+length-header : (h : Header) → length (headerText h) ≡ 20 + length (line (bytes "south=") (h .south .0 ∷ [])) + length (line (bytes "west=") (h .west .0 ∷ [])) + length (line (bytes "dlat=") (h .dlat ∷ [])) + length (line (bytes "dlon=") (h .dlon ∷ [])) + length (line (bytes "rows=") (h .rows ∷ [])) + length (line (bytes "cols=") (h .cols ∷ []))
 unfolding headerText
 length-header h = simp length-append (omega arith)
 
-pub nodes-next : (lat lon : List ℤ) (k : ℕ) → nodeLines lat lon (k + 1) ≡ nodeLines lat lon k ++ pairLine (bytes "node=") (node lat k) (node lon k)
+pub nodes-next : (lat lon : List ℤ) (k : ℕ) → nodeLines lat lon (k + 1) ≡ nodeLines lat lon k ++ line (bytes "node=") (node lat k ∷ node lon k ∷ [])
 unfolding nodeLines nodeLine
 nodes-next lat lon k = rw add-one
 
--- fewer nodes take no more bytes
-pub nodes-grow : (lat lon : List ℤ) (k n : ℕ) → k ≤ n → length (nodeLines lat lon k) ≤ length (nodeLines lat lon n)
-unfolding nodeLines
-nodes-grow lat lon k zero h = let e : k ≡ 0 = omega arith in rw e (le-refl _)
-nodes-grow lat lon k (suc n) h =
-    ⊎-elim
-    (λ l. simp length-append (omega (arith, nodes-grow lat lon k n (omega arith))))
-    (λ ok. let e : k ≡ suc n = omega arith in rw e (le-refl _))
-    (lt-or-ge k (suc n))
-
-pub length-grid : (g : Grid) → length (gridText g) ≡ length (headerText (g .header)) + length (nodeLines (g .lat) (g .lon) (nodeCount (g .header))) + length (line (bytes "end=") (pos (nodeCount (g .header))))
+length-grid : (g : Grid) → length (gridText g) ≡ length (headerText (g .header)) + length (nodeLines (g .lat) (g .lon) (nodeCount (g .header))) + length (line (bytes "end=") (pos (nodeCount (g .header)) ∷ []))
 unfolding gridText
 length-grid g = simp length-append (omega arith)
 
 -- ---- the text of a grid that passes the checks is at most 48,000 bytes long
 
 -- "Each shift is from −6,000,000 to 6,000,000": 7 digits and a minus
-shift-length : {x : ℤ} → Within 6000000 x → length (spell x) ≤ 8
+shift-length : {x : ℤ} → Within maxShift x → length (spell x) ≤ 8
 shift-length {x} h = length-spell x 7 (omega arith) (omega arith)
 
 nodes-length : (lat lon : List ℤ) (n k : ℕ) → InRange n lat → InRange n lon → k ≤ n → length (nodeLines lat lon k) ≤ 23 * k
@@ -70,22 +57,26 @@ nodes-length lat lon n (suc k) p q h =
 number-length : {lo x hi : ℤ} → Between lo x hi → T (leb (natAbs lo) 999999999) → T (leb (natAbs hi) 999999999) → length (spell x) ≤ 10
 number-length {lo} {x} {hi} b s t = let w = between-within 999999999 b (widen (own-size lo) s) (widen (own-size hi) t) in length-spell x 9 (omega arith) (omega arith)
 
+-- a line of one number
+one-number : (key : List ℕ) (x : ℤ) → length (line key (x ∷ [])) ≡ length key + length (spell x) + 1
+one-number key x = omega (arith, length-line key (x ∷ []), length-one x)
+
 header-length : {h : Header} → RulesHold h → length (headerText h) ≤ 122
 header-length {h} r =
     omega (
       arith,
       length-header h,
-      length-line (bytes "south=") (h .south .0),
+      one-number (bytes "south=") (h .south .0),
       number-length (r .south) tt tt,
-      length-line (bytes "west=") (h .west .0),
+      one-number (bytes "west=") (h .west .0),
       number-length (r .west) tt tt,
-      length-line (bytes "dlat=") (h .dlat),
+      one-number (bytes "dlat=") (h .dlat),
       number-length (r .dlat) tt tt,
-      length-line (bytes "dlon=") (h .dlon),
+      one-number (bytes "dlon=") (h .dlon),
       number-length (r .dlon) tt tt,
-      length-line (bytes "rows=") (h .rows),
+      one-number (bytes "rows=") (h .rows),
       number-length (r .rows) tt tt,
-      length-line (bytes "cols=") (h .cols),
+      one-number (bytes "cols=") (h .cols),
       number-length (r .cols) tt tt,
     )
 
@@ -100,6 +91,6 @@ text-length g e =
       header-length (ok .header),
       m,
       nodes-length (g .lat) (g .lon) n n (ok .of-lat .ranged) (ok .of-lon .ranged) (omega arith),
-      length-line (bytes "end=") (pos n),
+      one-number (bytes "end=") (pos n),
       length-spell (pos n) 4 (omega arith) (omega arith),
     )

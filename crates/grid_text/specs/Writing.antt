@@ -1,14 +1,12 @@
 -- Writing a grid (document 01, "When the answer is no": "Writing: 2, 5, 3, 4, 8").
 use Prim.Native.Nat.{ℕ}
 use mathlib.Core.List.{List}
-use lib.ListN.{length}
 use Rattle.figures.specs.Outcome.{Outcome, andThen}
-use Rattle.lines.specs.Writing.{fitted}
+use Rattle.writing.specs.Writing.{inRoom}
 use Rattle.grid.specs.Grid.{Grid}
 use Rattle.grid.specs.Check.{verdict}
 use Rattle.grid_text.specs.Text.{gridText}
 
 -- the checks, and then the room for the text
 unfoldable pub writing : Grid → (room : List ℕ) → Outcome ℕ
-writing g room =
-    andThen (verdict g) (fitted (length (gridText g)) (length room))
+writing g room = andThen (verdict g) (inRoom (gridText g) room)

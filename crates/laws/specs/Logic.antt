@@ -1,7 +1,10 @@
 -- Tests joined by `and` and `or`, and the order of the integers as a test.
 use mathlib.Core.Path.{_≡_, refl, sym, subst, _∙_}
+use Prim.Native.Nat.{ℕ, _+_, _-_, _≤_, _<_}
 use mathlib.Core.Bool.{Bool, true, false, _&&_, _||_, cond}
-use lib.Dec.{T}
+use mathlib.Core.Logic.{_⊎_, inl, inr}
+use borrow.Author.Tests.{ltb-true, ltb-false}
+use lib.Dec.{T, ltb}
 use lib.IntN.{ℤ}
 use lib.Signed.{leZ, ltZ, _≤ℤ_, _<ℤ_, leZ-yes, ltZ-yes, clashℤ, ≤ℤ-refl}
 use native.Mathlib.Omega.{arith}
@@ -87,3 +90,15 @@ by-test P false f g = g refl
 pub by-cond : {A P : Type 0} (p : Bool) {x y r : A} → cond p x y ≡ r → (p ≡ true → x ≡ r → P) → (p ≡ false → y ≡ r → P) → P
 by-cond true e f g = f refl e
 by-cond false e f g = g refl e
+
+-- one of two natural numbers is below the other, or not
+pub lt-or-ge : (a b : ℕ) → (a < b) ⊎ (b ≤ a)
+lt-or-ge a b = go (ltb a b) refl
+  where
+    go : (t : Bool) → ltb a b ≡ t → (a < b) ⊎ (b ≤ a)
+    go true e = inl (ltb-true a b e)
+    go false e = inr (ltb-false a b e)
+
+-- less is left of a loop's work
+pub less-left : (a t b : ℕ) → t < a → 0 < b → a - (t + b) < a - t
+less-left a t b h g = omega arith

@@ -1,7 +1,7 @@
 // Standard output.
 use figures::Refusal;
 use libc::STDOUT_FILENO;
-use lines::Written;
+use writing::Written;
 
 // Sends what was written to the front of the room, or why it was not. Answers whether to go on.
 pub(crate) fn put(written: Written, room: &[u8]) -> bool {
@@ -17,7 +17,11 @@ pub(crate) fn put(written: Written, room: &[u8]) -> bool {
 // `no=NUMBER,PLACE`
 pub(crate) fn refuse(why: Refusal) {
     let mut line = [0u8; 45];
-    let n = lines::write_pair(b"no=", signed(why.number()), signed(why.place()), &mut line);
+    let n = lines::write_line(
+        b"no=",
+        &[signed(why.number()), signed(why.place())],
+        &mut line,
+    ).bytes();
     send(n, &line);
 }
 

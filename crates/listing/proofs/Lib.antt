@@ -1,5 +1,4 @@
 pub mod Cuts
-pub mod Rooms
 pub mod Steps
 pub mod Holding
 pub mod Runs

@@ -6,17 +6,16 @@ use mathlib.Core.List.{List, [], _∷_, _++_, append-assoc, append-nil}
 use native.Mathlib.Omega.{arith}
 use native.Mathlib.Numerals.{add-one}
 use native.Mathlib.Nat.{le-of-suc-le-suc}
-use borrow.Author.Tests.{le-leb}
 use lib.Dec.{eqb}
 use lib.ListN.{length, take}
 use lib.Seq.{take-all}
 use Rattle.bytes.specs.Bytes.{indexAfter, indexOf}
 use Rattle.laws.specs.Logic.{either-way}
-use Rattle.laws.specs.Over.{over}
-use Rattle.decimal.specs.Wrote.{written}
+use Rattle.writing.specs.Writing.{Put}
+use Rattle.writing.proofs.Laws.{put-nothing}
 use Rattle.lines.specs.Text.{newline}
 use Rattle.requests.specs.Requests.{requestIn}
-use Rattle.requests.specs.Replies.{Conversions, isAnswer, replyTo, replyText}
+use Rattle.requests.specs.Replies.{Conversions, isAnswer, replyTo, replyText, maxText}
 use Rattle.requests.specs.declared.Reply.{Reply}
 use Rattle.listing.specs.Lines.{replies, rest, texts, answers, refusals}
 use Rattle.listing.specs.Pieces.{oneMore, raised, listingOf, heldLine, counted, fedReplies, fedText, fedList}
@@ -102,10 +101,6 @@ module _ (c : Conversions) (s : Listing) (t : List ℕ) {r : ℕ} (e : r ≡ ind
 
 -- ---- what the writer of one line has done
 
-pub written-nothing : (room : List ℕ) → room ≡ written [] room
-unfolding written over
-written-nothing room = rw (le-leb 0 (length room) (omega arith))
-
 module _ (c : Conversions) (s : Listing) (t room : List ℕ) {r : ℕ} (e : r ≡ indexOf newline t) {l : Listing} where
   pub stepped-held : length t ≤ r → r ≤ length t → l ≡ listingOf (take 65 (heldLine s ++ t)) (s .answered) (s .refused)
       → Stepped c s t room room (record { list = l; taken = r; bytes = 0 })
@@ -113,21 +108,19 @@ module _ (c : Conversions) (s : Listing) (t room : List ℕ) {r : ℕ} (e : r �
     within = g;
     onward = λ k. omega arith;
     next = p ∙ held-list c s t e h;
-    counted = sym (ap length (held-text c s t e h));
-    wrote = written-nothing room ∙ ap (λ w. written w room) (sym (held-text c s t e h));
-    small = omega arith;
+    put = rw (held-text c s t e h) (put-nothing room);
+    small = rw (held-text c s t e h) (omega arith);
   }
 
   pub stepped-line : r < length t → {q : Reply} {after : List ℕ} {n : ℕ} → q ≡ replyTo c (requestIn (heldLine s ++ take r t)) → l ≡ counted s q
-      → (n ≡ length (replyText q)) × (after ≡ written (replyText q) room) × (n ≤ 47)
+      → Put (replyText q) room after n → length (replyText q) ≤ maxText
       → Stepped c s t room after (record { list = l; taken = r + 1; bytes = n })
-  stepped-line h f p w =
+  stepped-line h f p w b =
       let x = ap replyText f ∙ sym (line-text c s t e h) in
       record {
         within = omega arith;
         onward = λ k. omega arith;
         next = p ∙ ap (counted s) f ∙ line-list c s t e h;
-        counted = w .0 ∙ ap length x;
-        wrote = w .1 ∙ ap (λ v. written v room) x;
-        small = w .2;
+        put = rw x at w;
+        small = omega (arith, ap length x);
       }

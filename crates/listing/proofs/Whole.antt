@@ -9,8 +9,13 @@ use lib.Dec.{eqb, lt→ltb}
 use lib.ListN.{length, take, length-append}
 use lib.IntN.{ℤ, pos}
 use lib.Signed.{_<ℤ_}
+use mir.Syntax.{w64}
+use mir.Val.{toZ}
 use Rattle.laws.specs.Logic.{ltZ-true, either-way}
 use Rattle.laws.specs.Over.{over}
+use Rattle.writing.specs.Writing.{Wrote}
+use Rattle.writing.specs.declared.Written.{Written}
+use Rattle.decimal.proofs.Signs.{read-pos}
 use Rattle.lines.specs.Text.{newline}
 use Rattle.grid.specs.Grid.{Grid}
 use Rattle.grid.specs.Check.{Passes}
@@ -23,6 +28,11 @@ use Rattle.listing.specs.Lines.{replies, rest, unended, allReplies, text
 use Rattle.listing.specs.Listing.{sheetText, listText}
 use Rattle.listing.specs.Pieces.{oneMore, raised, listingOf, fresh, fedReplies, fedText, fedList, endText}
 use Rattle.listing.proofs.Cuts.{held-of, texts-append, answers-append, refusals-append}
+
+-- ---- the first line, whose number is as the machine has it
+
+pub sheet-wrote : {n r : ℕ} {room after : List ℕ} {w : Written} → (r ≡ n) × (r ≤ 2048) → Wrote (replyText (Reply.Sheet (toZ w64 r))) room after w → Wrote (sheetText n) room after w
+sheet-wrote {r = r} e w = let z = read-pos r (omega arith) ∙ ap pos (e .0) in rw z at w
 
 -- ---- totals below the greatest
 

@@ -1,16 +1,16 @@
 // The line that has not ended.
 use super::Listing;
-use super::tally::least;
-use super::tally::one_more;
 use grid::Header;
 use requests::Reply;
+use slices::least;
+use writing::write_text;
 ghost use mathlib.Core.Path.{_≡_};
 ghost use mathlib.Core.List.{_++_};
 ghost use lib.ListN.{take};
 ghost use Rattle.grid.specs.Grid.{gridOf};
 ghost use Rattle.requests.specs.Requests.{requestIn};
 ghost use Rattle.requests.specs.Replies.{checkedOnce, replyTo};
-ghost use Rattle.listing.specs.Pieces.{heldLine, listingOf, counted};
+ghost use Rattle.listing.specs.Pieces.{oneMore, heldLine, listingOf, counted};
 
 impl Listing {
     // With more bytes of its line, of which the first 65 are kept.
@@ -21,8 +21,8 @@ impl Listing {
         let kept = least(self.length, 65);
         let more = least(part.len(), 65 - kept);
         let mut line = [0u8; 65];
-        lines::write_text(&held[..kept], &mut line);
-        lines::write_text(&part[..more], &mut line[kept..]);
+        write_text(&held[..kept], &mut line);
+        write_text(&part[..more], &mut line[kept..]);
         Listing {
             held: line,
             length: kept + more,
@@ -63,4 +63,14 @@ impl Listing {
         let n = whole.length;
         requests::reply_to(h, lat, lon, &line[..n])
     }
+}
+
+// One line more. The total stays at the greatest number there is.
+pub(crate) fn one_more(x: i64) -> i64
+    ensures { λ r. ⌜ r ≡ oneMore x ⌝ }
+{
+    if x < 9_223_372_036_854_775_807 {
+        return x + 1;
+    }
+    x
 }

@@ -1,19 +1,18 @@
 // The list: one reply for each request line, for a whole text or as its bytes come.
 mod held;
 mod putting;
-mod tally;
 
 use figures::Refusal;
 use grid::Checked;
 use grid::Header;
-use lines::Written;
 use requests::Reply;
+use writing::Written;
 ghost use mathlib.Core.Path.{_≡_};
-ghost use Rattle.lines.specs.Writing.{outcome, roomAfter};
+ghost use Rattle.writing.specs.Writing.{inRoom, roomAfter, writtenOutcome, Wrote};
 ghost use Rattle.requests.specs.Replies.{checkedAfresh, checkedOnce};
 ghost use Rattle.grid.specs.Grid.{gridOf};
 ghost use Rattle.grid.specs.Rules.{nodesOf};
-ghost use Rattle.listing.specs.Listing.{sheetText, listText, inRoom, beginning, listing};
+ghost use Rattle.listing.specs.Listing.{sheetText, listText, beginning, listing};
 ghost use Rattle.listing.specs.Pieces.{fresh, fedText, fedList, endText, listAfter};
 
 // A list as far as it has come.
@@ -48,25 +47,13 @@ impl Listing {
 
 // The first line of a list. It is the check of the grid: 2, 5, 3, 4, then 8.
 pub fn begin<'a>(h: Header, lat: &'a [i64], lon: &'a [i64], room: &mut [u8]) -> Written
-    ensures answer { λ r. ⌜ outcome r ≡ beginning (gridOf h (now (lat .entry)) (now (lon .entry))) (now (room .entry)) ⌝ }
-    ensures text { λ r. ⌜ now (room .exit) ≡ roomAfter (outcome r) (sheetText (nodesOf h)) (now (room .entry)) ⌝ }
+    ensures answer { λ r. ⌜ writtenOutcome r ≡ beginning (gridOf h (now (lat .entry)) (now (lon .entry))) (now (room .entry)) ⌝ }
+    ensures text { λ r. ⌜ now (room .exit) ≡ roomAfter (writtenOutcome r) (sheetText (nodesOf h)) (now (room .entry)) ⌝ }
 {
     match grid::check(h, lat, lon) {
         Checked::Refused(why) => Written::Refused(why),
-        Checked::Passes => write_sheet(h, room),
+        Checked::Passes => Reply::Sheet(h.nodes() as i64).write(room),
     }
-}
-
-fn write_sheet(h: Header, room: &mut [u8]) -> Written
-    ensures answer { λ r. ⌜ outcome r ≡ inRoom (sheetText (nodesOf h)) (now (room .entry)) ⌝ }
-    ensures text { λ r. ⌜ now (room .exit) ≡ roomAfter (outcome r) (sheetText (nodesOf h)) (now (room .entry)) ⌝ }
-{
-    let sheet = Reply::Sheet(h.nodes() as i64);
-    let n = sheet.write(room);
-    if room.len() < n {
-        return Written::Refused(Refusal::Room(n));
-    }
-    Written::Bytes(n)
 }
 
 // The replies to the lines that end in the next piece of the requests, over a grid that `begin` has checked. Where the room is too
@@ -79,9 +66,9 @@ pub fn feed<'a>(
     piece: &[u8],
     room: &mut [u8],
 ) -> Fed
-    ensures answer { λ r. ⌜ outcome (r .written) ≡ inRoom (fedText (checkedOnce (gridOf h (now (lat .entry)) (now (lon .entry)))) list (now (piece .entry))) (now (room .entry)) ⌝ }
-    ensures list { λ r. ⌜ r .list ≡ listAfter (outcome (r .written)) (fedList (checkedOnce (gridOf h (now (lat .entry)) (now (lon .entry)))) list (now (piece .entry))) list ⌝ }
-    ensures text { λ r. ⌜ now (room .exit) ≡ roomAfter (outcome (r .written)) (fedText (checkedOnce (gridOf h (now (lat .entry)) (now (lon .entry)))) list (now (piece .entry))) (now (room .entry)) ⌝ }
+    ensures answer { λ r. ⌜ writtenOutcome (r .written) ≡ inRoom (fedText (checkedOnce (gridOf h (now (lat .entry)) (now (lon .entry)))) list (now (piece .entry))) (now (room .entry)) ⌝ }
+    ensures list { λ r. ⌜ r .list ≡ listAfter (writtenOutcome (r .written)) (fedList (checkedOnce (gridOf h (now (lat .entry)) (now (lon .entry)))) list (now (piece .entry))) list ⌝ }
+    ensures text { λ r. ⌜ now (room .exit) ≡ roomAfter (writtenOutcome (r .written)) (fedText (checkedOnce (gridOf h (now (lat .entry)) (now (lon .entry)))) list (now (piece .entry))) (now (room .entry)) ⌝ }
 {
     let lacks = putting::lacking(list, h, lat, lon, piece, room.len());
     if lacks != 0 {
@@ -100,8 +87,7 @@ pub fn feed<'a>(
 
 // The last lines of a list: its last request line, if that has no newline, and the totals.
 pub fn finish(list: Listing, room: &mut [u8]) -> Written
-    ensures answer { λ r. ⌜ outcome r ≡ inRoom (endText list) (now (room .entry)) ⌝ }
-    ensures text { λ r. ⌜ now (room .exit) ≡ roomAfter (outcome r) (endText list) (now (room .entry)) ⌝ }
+    ensures { λ r. ⌜ Wrote (endText list) (now (room .entry)) (now (room .exit)) r ⌝ }
 {
     let needed = putting::put_end(list, &mut room[0..0]);
     if room.len() < needed {
@@ -112,8 +98,8 @@ pub fn finish(list: Listing, room: &mut [u8]) -> Written
 
 // The whole list for a request text: 2, 5, 3, 4, then 8. The grid is checked once.
 pub fn list<'a>(h: Header, lat: &'a [i64], lon: &'a [i64], text: &[u8], room: &mut [u8]) -> Written
-    ensures answer { λ r. ⌜ outcome r ≡ listing (gridOf h (now (lat .entry)) (now (lon .entry))) (now (text .entry)) (now (room .entry)) ⌝ }
-    ensures text { λ r. ⌜ now (room .exit) ≡ roomAfter (outcome r) (listText (nodesOf h) (checkedAfresh (gridOf h (now (lat .entry)) (now (lon .entry)))) (now (text .entry))) (now (room .entry)) ⌝ }
+    ensures answer { λ r. ⌜ writtenOutcome r ≡ listing (gridOf h (now (lat .entry)) (now (lon .entry))) (now (text .entry)) (now (room .entry)) ⌝ }
+    ensures text { λ r. ⌜ now (room .exit) ≡ roomAfter (writtenOutcome r) (listText (nodesOf h) (checkedAfresh (gridOf h (now (lat .entry)) (now (lon .entry)))) (now (text .entry))) (now (room .entry)) ⌝ }
 {
     match grid::check(h, lat, lon) {
         Checked::Refused(why) => Written::Refused(why),
@@ -129,8 +115,7 @@ fn list_checked<'a>(
     text: &[u8],
     room: &mut [u8],
 ) -> Written
-    ensures answer { λ r. ⌜ outcome r ≡ inRoom (listText (nodesOf h) (checkedOnce (gridOf h (now (lat .entry)) (now (lon .entry)))) (now (text .entry))) (now (room .entry)) ⌝ }
-    ensures text { λ r. ⌜ now (room .exit) ≡ roomAfter (outcome r) (listText (nodesOf h) (checkedOnce (gridOf h (now (lat .entry)) (now (lon .entry)))) (now (text .entry))) (now (room .entry)) ⌝ }
+    ensures { λ r. ⌜ Wrote (listText (nodesOf h) (checkedOnce (gridOf h (now (lat .entry)) (now (lon .entry)))) (now (text .entry))) (now (room .entry)) (now (room .exit)) r ⌝ }
 {
     let needed = putting::put_list(h, lat, lon, text, &mut room[0..0]);
     if room.len() < needed {

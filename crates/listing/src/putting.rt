@@ -1,18 +1,19 @@
 // The writers of the parts of a list. In a room of no bytes they only count.
 use super::Listing;
-use super::tally::least;
-use super::tally::one_more;
-use super::tally::plus;
+use super::held::one_more;
 use grid::Header;
 use requests::Reply;
+use slices::least;
+use writing::saturating_add;
 ghost use Prim.Native.Nat.{_<_};
 ghost use lib.ListN.{length};
+ghost use Rattle.writing.specs.Writing.{Put};
 ghost use Rattle.requests.specs.Replies.{checkedOnce};
 ghost use Rattle.grid.specs.Grid.{gridOf};
 ghost use Rattle.grid.specs.Rules.{nodesOf};
 ghost use Rattle.listing.specs.Listing.{listText};
 ghost use Rattle.listing.specs.Pieces.{fedText, endText};
-ghost use Rattle.listing.specs.Needs.{Enough, Roomy, Lacking, Stepped, Replied, Put};
+ghost use Rattle.listing.specs.Needs.{Lacking, Stepped, Replied};
 
 // How far a text was worked: the list behind it, how many of its bytes were read, and how many were written.
 pub(crate) struct Advance {
@@ -21,8 +22,8 @@ pub(crate) struct Advance {
     pub bytes: usize,
 }
 
-// The bytes that the replies to a piece need, if the room is shorter, else 0. No reply takes more than 47, and each needs a byte of
-// the piece, so most rooms are known to be long enough with no reply worked out.
+// The bytes that the replies to a piece need, if the room is shorter, else 0. No reply is longer than the longest line, and each needs
+// a byte of the piece, so most rooms are known to be long enough with no reply worked out.
 pub(crate) fn lacking<'a>(
     list: Listing,
     h: Header,
@@ -54,7 +55,6 @@ pub(crate) fn put_replies<'a>(
     piece: &[u8],
     room: &mut [u8],
 ) -> Advance
-    requires { ⌜ Roomy (fedText (checkedOnce (gridOf h (now lat) (now lon))) list (now piece)) (length (now piece)) (now room) ⌝ }
     ensures { λ r. ⌜ Replied (checkedOnce (gridOf h (now (lat .entry)) (now (lon .entry)))) list (now (piece .entry)) (now (room .entry)) (now (room .exit)) r ⌝ }
 {
     let mut next = list.hold(&piece[0..0]);
@@ -65,7 +65,7 @@ pub(crate) fn put_replies<'a>(
         let done = put_line(next, h, lat, lon, &piece[taken..], &mut room[from..]);
         next = done.list;
         taken += done.taken;
-        bytes = plus(bytes, done.bytes);
+        bytes = saturating_add(bytes, done.bytes);
     }
     Advance {
         list: next,
@@ -94,7 +94,7 @@ fn put_line<'a>(
         };
     }
     let reply = list.reply(h, lat, lon, &text[..end]);
-    let n = reply.write(room);
+    let n = reply.write(room).bytes();
     Advance {
         list: list.count(reply),
         taken: end + 1,
@@ -104,18 +104,15 @@ fn put_line<'a>(
 
 // The last request line, if it has no newline, and the totals.
 pub(crate) fn put_end(list: Listing, room: &mut [u8]) -> usize
-    requires { ⌜ Enough (endText list) (now room) ⌝ }
     ensures { λ r. ⌜ Put (endText list) (now (room .entry)) (now (room .exit)) r ⌝ }
 {
     if list.length == 0 {
-        let done = Reply::Done(list.answered, list.refused);
-        return done.write(room);
+        return Reply::Done(list.answered, list.refused).write(room).bytes();
     }
-    let cut = Reply::No(1);
-    let at = cut.write(room);
+    let at = Reply::No(1).write(room).bytes();
     let from = least(at, room.len());
     let done = Reply::Done(list.answered, one_more(list.refused));
-    at + done.write(&mut room[from..])
+    saturating_add(at, done.write(&mut room[from..]).bytes())
 }
 
 // The whole list.
@@ -126,15 +123,13 @@ pub(crate) fn put_list<'a>(
     text: &[u8],
     room: &mut [u8],
 ) -> usize
-    requires { ⌜ Enough (listText (nodesOf h) (checkedOnce (gridOf h (now lat) (now lon))) (now text)) (now room) ⌝ }
     ensures { λ r. ⌜ Put (listText (nodesOf h) (checkedOnce (gridOf h (now (lat .entry)) (now (lon .entry)))) (now (text .entry))) (now (room .entry)) (now (room .exit)) r ⌝ }
 {
-    let sheet = Reply::Sheet(h.nodes() as i64);
-    let mut at = sheet.write(room);
-    let mut from = least(at, room.len());
+    let start = Reply::Sheet(h.nodes() as i64).write(room).bytes();
+    let from = least(start, room.len());
     let done = put_replies(Listing::new(), h, lat, lon, text, &mut room[from..]);
-    at = plus(at, done.bytes);
-    from = least(at, room.len());
+    let end = saturating_add(start, done.bytes);
+    let from = least(end, room.len());
     let list = done.list;
-    plus(at, put_end(list, &mut room[from..]))
+    saturating_add(end, put_end(list, &mut room[from..]))
 }

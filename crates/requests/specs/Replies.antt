@@ -1,7 +1,7 @@
 -- The reply to a request line, and its text (document 01, "The list program").
 use Prim.Native.Nat.{ℕ}
 use mathlib.Core.Bool.{Bool, true, false}
-use mathlib.Core.List.{List}
+use mathlib.Core.List.{List, [], _∷_}
 use lib.IntN.{pos}
 use Rattle.laws.specs.Bytes.{bytes}
 use Rattle.figures.specs.Refusal.{numberOf}
@@ -9,7 +9,7 @@ use Rattle.figures.specs.Outcome.{Outcome, answered, refused}
 use Rattle.figures.specs.declared.Refusal.{Refusal}
 use Rattle.figures.specs.declared.Point27.{Point27}
 use Rattle.figures.specs.declared.Point83.{Point83}
-use Rattle.lines.specs.Text.{line, pairLine}
+use Rattle.lines.specs.Text.{line}
 use Rattle.grid.specs.Grid.{Grid}
 use Rattle.convert.specs.Convert.{to83, to27, forward}
 use Rattle.convert.specs.Rounds.{inverse}
@@ -63,8 +63,12 @@ isAnswer (Reply.Done a b) = true
 -- ---- their text
 
 unfoldable pub replyText : Reply → List ℕ
-replyText (Reply.Sheet n) = line (bytes "sheet=") n
-replyText (Reply.In83 f) = pairLine (bytes "ok83=") (f .lat .0) (f .lon .0)
-replyText (Reply.In27 p) = pairLine (bytes "ok27=") (p .lat .0) (p .lon .0)
-replyText (Reply.No n) = line (bytes "no=") n
-replyText (Reply.Done a b) = pairLine (bytes "done=") a b
+replyText (Reply.Sheet n) = line (bytes "sheet=") (n ∷ [])
+replyText (Reply.In83 f) = line (bytes "ok83=") (f .lat .0 ∷ f .lon .0 ∷ [])
+replyText (Reply.In27 p) = line (bytes "ok27=") (p .lat .0 ∷ p .lon .0 ∷ [])
+replyText (Reply.No n) = line (bytes "no=") (n ∷ [])
+replyText (Reply.Done a b) = line (bytes "done=") (a ∷ b ∷ [])
+
+-- no line of the list is longer: a key of 5 bytes, two numbers of 20, a comma and the newline
+abbrev pub maxText : ℕ
+maxText = 47

@@ -15,17 +15,9 @@ use Rattle.convert.proofs.Demands.{one-point, comes-back, Returned, returned}
 use Rattle.round_trip.specs.RoundTrip.{comesBack, goesAgain, oneAnswer}
 
 module _ (g : Grid) where
-  pub there-refused : (p : Point27) {n k : ℕ} → refused n k ≡ to83 g p → refused n k ≡ comesBack g p
-  unfolding comesBack
-  there-refused p e = rw (← e)
-
   pub there-back : (p : Point27) {f : Point83} → answered f ≡ to83 g p → to27 g f ≡ comesBack g p
   unfolding comesBack
   there-back p e = rw (← e) (comes-back g p (sym e))
-
-  pub back-refused : (f : Point83) {n k : ℕ} → refused n k ≡ to27 g f → refused n k ≡ goesAgain g f
-  unfolding goesAgain
-  back-refused f e = rw (← e)
 
   pub back-there : (f : Point83) {p : Point27} → answered p ≡ to27 g f → to83 g p ≡ goesAgain g f
   unfolding goesAgain

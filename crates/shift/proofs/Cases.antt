@@ -16,7 +16,7 @@ use Rattle.figures.specs.Outcome.{answered, refused}
 use Rattle.figures.proofs.Laws.{both-answered, not-refused}
 use Rattle.grid.specs.Grid.{Grid}
 use Rattle.grid.specs.Rules.{shape}
-use Rattle.grid.specs.Nodes.{node, beyondRange, outOfRange}
+use Rattle.grid.specs.Nodes.{maxShift, node, beyondRange, outOfRange}
 use Rattle.grid.specs.Check.{layout}
 use Rattle.grid.specs.declared.Shape.{Shape}
 use Rattle.grid.specs.Needs.{Extent}
@@ -30,11 +30,11 @@ use Rattle.shift.specs.declared.Shift.{Shift}
 use Rattle.shift.proofs.Sums.{four-corner-within}
 use Rattle.shift.proofs.Cells.{weighted, cell-of-point, cell-in}
 
-node-in : (lat lon : List ℤ) (k : ℕ) → outOfRange lat lon k ≡ false → Within 6000000 (node lat k) × Within 6000000 (node lon k)
+node-in : (lat lon : List ℤ) (k : ℕ) → outOfRange lat lon k ≡ false → Within maxShift (node lat k) × Within maxShift (node lon k)
 unfolding outOfRange
 node-in lat lon k e = let t = neither (beyondRange (node lat k)) (beyondRange (node lon k)) e in (in-range (t .0), in-range (t .1))
 
-pub node-not-beyond : (lat lon : List ℤ) (k : ℕ) → Within 6000000 (node lat k) → Within 6000000 (node lon k) → outOfRange lat lon k ≡ false
+pub node-not-beyond : (lat lon : List ℤ) (k : ℕ) → Within maxShift (node lat k) → Within maxShift (node lon k) → outOfRange lat lon k ≡ false
 unfolding outOfRange
 node-not-beyond lat lon k p q = rw (not-beyond p, not-beyond q)
 
@@ -98,19 +98,10 @@ module _ (s : Shape) (lat lon : List ℤ) (x y : ℕ) where
     unfolding shiftOn
     on-grid q = rw (le-ltb _ _ p, le-ltb _ _ q)
 
-module _ (g : Grid) (x y : ℕ) where
-  pub layout-refused : {n k : ℕ} → refused n k ≡ layout g → refused n k ≡ shiftAt g x y
-  unfolding shiftAt
-  layout-refused e = rw (← e)
-
-  pub layout-passes : answered tt ≡ layout g → shiftOn (shape (g .header)) (g .lat) (g .lon) x y ≡ shiftAt g x y
-  unfolding shiftAt
-  layout-passes e = rw (← e)
-
 -- ---- whatever is answered is in range
 
 module _ (s : Shape) (z : Extent s) (lat lon : List ℤ) where
-  in-cell-range : (k : Cell) → CellIn s k → {r : Shift} → shiftIn s lat lon k ≡ answered r → Within 6000000 (r .lat) × Within 6000000 (r .lon)
+  in-cell-range : (k : Cell) → CellIn s k → {r : Shift} → shiftIn s lat lon k ≡ answered r → Within maxShift (r .lat) × Within maxShift (r .lon)
   unfolding shiftIn componentIn
   in-cell-range k c {r} e =
       let i = southwest (s .cols) k in
@@ -123,16 +114,16 @@ module _ (s : Shape) (z : Extent s) (lat lon : List ℤ) where
       let p = four-corner-within _ k (corners-lat s lat lon k (t₁ .0) (t₂ .0) (t₃ .0) (t₄ .0)) w in
       let q = four-corner-within _ k (corners-lon s lat lon k (t₁ .0) (t₂ .0) (t₃ .0) (t₄ .0)) w in
       let u : bothIn (s .cols) lat lon k ≡ r = let v = t₄ .1 in cc in
-      (subst (λ (t : Shift). Within 6000000 (t .lat)) u p, subst (λ (t : Shift). Within 6000000 (t .lon)) u q)
+      (subst (λ (t : Shift). Within maxShift (t .lat)) u p, subst (λ (t : Shift). Within maxShift (t .lon)) u q)
 
-  on-range : (x y : ℕ) {r : Shift} → shiftOn s lat lon x y ≡ answered r → Within 6000000 (r .lat) × Within 6000000 (r .lon)
+  on-range : (x y : ℕ) {r : Shift} → shiftOn s lat lon x y ≡ answered r → Within maxShift (r .lat) × Within maxShift (r .lon)
   unfolding shiftOn
   on-range x y e =
       let t = not-refused (ltb ((s .cols - 1) * s .dlon) x || ltb ((s .rows - 1) * s .dlat) y) 6 0 _ e in
       let o = neither (ltb ((s .cols - 1) * s .dlon) x) (ltb ((s .rows - 1) * s .dlat) y) (t .0) in
       in-cell-range (cellAt s x y) (cell-in z (cell-of-point z (ltb-false _ _ (o .0)) (ltb-false _ _ (o .1)))) (t .1)
 
-pub shift-at-range : (g : Grid) (x y : ℕ) {r : Shift} → shiftAt g x y ≡ answered r → Within 6000000 (r .lat) × Within 6000000 (r .lon)
+pub shift-at-range : (g : Grid) (x y : ℕ) {r : Shift} → shiftAt g x y ≡ answered r → Within maxShift (r .lat) × Within maxShift (r .lon)
 unfolding shiftAt
 shift-at-range g x y e =
     let t = both-answered (layout g) (shiftOn (shape (g .header)) (g .lat) (g .lon) x y) e in

@@ -13,9 +13,10 @@ use Rattle.bilinear.specs.Surface.{surface, SlopeBound, surface-is, Nearest}
 use Rattle.bilinear.specs.Answers.{lipschitz, shift-between, shift-node}
 use Rattle.bilinear.specs.Search.{Regular}
 use Rattle.figures.specs.Outcome.{answered}
+use Rattle.figures.proofs.Laws.{passed-first}
 use Rattle.grid.specs.Grid.{Grid}
 use Rattle.grid.specs.Rules.{shape}
-use Rattle.grid.specs.Nodes.{node}
+use Rattle.grid.specs.Nodes.{maxShift, node}
 use Rattle.grid.specs.Needs.{Extent}
 use Rattle.grid.specs.declared.Shape.{Shape}
 use Rattle.grid.proofs.RuleLaws.{Between, extent}
@@ -29,35 +30,35 @@ use Rattle.shift.specs.declared.Corners.{Corners}
 use Rattle.shift.proofs.Rounding.{nearest-raised, NearestAway, nearest-away}
 use Rattle.shift.proofs.Sums.{four-corner-within}
 use Rattle.shift.proofs.Cells.{CellOf, edges, spacings, cell-of-point, cell-in, corners-in, weighted}
-use Rattle.shift.proofs.Cases.{node-not-beyond, none-beyond, on-grid, layout-passes}
+use Rattle.shift.proofs.Cases.{node-not-beyond, none-beyond, on-grid}
 
 -- ---- raised shifts
 
-pub raise-is : {z : ℤ} → Within 6000000 z → pos (raise z) ≡ z +ℤ pos 6000000
+pub raise-is : {z : ℤ} → Within maxShift z → pos (raise z) ≡ z +ℤ pos maxShift
 unfolding raise
-raise-is {z} h = omega (arith, ints, linear (lit z ⊕ lit (pos 6000000)), parts-disjoint (z +ℤ pos 6000000))
+raise-is {z} h = omega (arith, ints, linear (lit z ⊕ lit (pos maxShift)), parts-disjoint (z +ℤ pos maxShift))
 
-pub raise-by : {z : ℤ} → Within 6000000 z → raise z + negPart z ≡ posPart z + 6000000
-raise-by {z} h = omega (arith, ints, raise-is h, linear (lit z ⊕ lit (pos 6000000)))
+pub raise-by : {z : ℤ} → Within maxShift z → raise z + negPart z ≡ posPart z + maxShift
+raise-by {z} h = omega (arith, ints, raise-is h, linear (lit z ⊕ lit (pos maxShift)))
 
 lowered : (n : ℕ) (a b : ℤ) → a +ℤ pos n ≡ b +ℤ pos n → a ≡ b
 lowered n a b e = omega (arith, ints, linear (lit a ⊕ lit (pos n)), linear (lit b ⊕ lit (pos n)))
 
 -- a step that is not too steep
-near-raised : (d : ℕ) {a b : ℤ} → Within 6000000 a → Within 6000000 b → 16 * natAbs (b -ℤ a) ≤ 100 * d → Near (25 * d) (raise a) (raise b)
+near-raised : (d : ℕ) {a b : ℤ} → Within maxShift a → Within maxShift b → 16 * natAbs (b -ℤ a) ≤ 100 * d → Near (25 * d) (raise a) (raise b)
 near-raised d {a} {b} p q h =
     near16 d (raise a) (raise b) .1 (omega (arith, ints, raise-by p, raise-by q, abs-parts (b -ℤ a), linear (lit b ⊖ lit a)))
 
 -- ---- the numerator
 
 -- a corner's term, raised
-term : {S : ℤ} (p q : ℕ) → Within 6000000 S → let t = S *ℤ pos p *ℤ pos q in raise S * p * q + negPart t ≡ posPart t + 6000000 * (p * q)
+term : {S : ℤ} (p q : ℕ) → Within maxShift S → let t = S *ℤ pos p *ℤ pos q in raise S * p * q + negPart t ≡ posPart t + maxShift * (p * q)
 term {S} p q h = omega (arith, ap (λ t. t * (p * q)) (raise-by h), linear (lit S ⊛ lit (pos p) ⊛ lit (pos q)))
 
 -- raised corners give the raised numerator
 numerator-raised : (s : Corners) (k : Cell) → CornersIn s
     → pos (raise (s .s1) * k .b * k .d + raise (s .s2) * k .a * k .d + raise (s .s3) * k .b * k .c + raise (s .s4) * k .a * k .c)
-    ≡ numerator s k +ℤ pos (6000000 * ((k .a + k .b) * (k .c + k .d)))
+    ≡ numerator s k +ℤ pos (maxShift * ((k .a + k .b) * (k .c + k .d)))
 unfolding numerator
 numerator-raised s k i =
     let t₁ = lit (s .s1 *ℤ pos (k .b) *ℤ pos (k .d)) in
@@ -65,7 +66,7 @@ numerator-raised s k i =
     let t₃ = lit (s .s3 *ℤ pos (k .b) *ℤ pos (k .c)) in
     let t₄ = lit (s .s4 *ℤ pos (k .a) *ℤ pos (k .c)) in
     omega
-    (arith, ints, linear (t₁ ⊕ t₂ ⊕ t₃ ⊕ t₄ ⊕ lit (pos (6000000 * ((k .a + k .b) * (k .c + k .d))))), term (k .b) (k .d) (i .sw), term (k .a) (k .d) (i .se), term (k .b) (k .c) (i .nw), term (k .a) (k .c) (i .ne))
+    (arith, ints, linear (t₁ ⊕ t₂ ⊕ t₃ ⊕ t₄ ⊕ lit (pos (maxShift * ((k .a + k .b) * (k .c + k .d))))), term (k .b) (k .d) (i .sw), term (k .a) (k .d) (i .se), term (k .b) (k .c) (i .nw), term (k .a) (k .c) (i .ne))
 
 -- ---- one component of a grid that passes
 
@@ -77,7 +78,7 @@ module _ {s : Shape} (z : Extent s) {S : List ℤ} (p : Sound s S) where
   index-in : (r c : ℕ) → r < s .rows → c < s .cols → r * s .cols + c < s .rows * s .cols
   index-in r c hr hc = omega (arith, mul-le-mul-right (s .cols) hr)
 
-  node-range : (r c : ℕ) → r < s .rows → c < s .cols → Within 6000000 (node S (r * s .cols + c))
+  node-range : (r c : ℕ) → r < s .rows → c < s .cols → Within maxShift (node S (r * s .cols + c))
   node-range r c hr hc = p .ranged .range _ (index-in r c hr hc)
 
   slopes : SlopeBound (s .dlon) (s .dlat) (s .cols - 2) (s .rows - 2) (raisedNodes (s .cols) S)
@@ -117,7 +118,7 @@ module _ {s : Shape} (z : Extent s) {S : List ℤ} (p : Sound s S) where
     unfolding componentIn fourCorner
     component-is = rw whole
 
-    pub component-range : Within 6000000 (componentIn (s .cols) S k)
+    pub component-range : Within maxShift (componentIn (s .cols) S k)
     unfolding componentIn
     component-range = four-corner-within _ k corners-range (weighted z c)
 
@@ -136,7 +137,7 @@ module _ {s : Shape} (z : Extent s) {S : List ℤ} (p : Sound s S) where
     ne = omega arith
 
     numerator-is : pos (surface (s .dlon) (s .dlat) (s .cols - 2) (s .rows - 2) (raisedNodes (s .cols) S) x y)
-        ≡ numerator corners k +ℤ pos (6000000 * (s .dlon * s .dlat))
+        ≡ numerator corners k +ℤ pos (maxShift * (s .dlon * s .dlat))
     numerator-is =
         let n = rw (se, nw, ne) at (surface-is (s .dlon) (s .dlat) (s .cols - 2) (s .rows - 2) (spacings z .0) (spacings z .1) (raisedNodes (s .cols) S) (o .along) (o .up)) in
         ap pos n ∙ (rw (whole (cell-in z o)) at (numerator-raised corners k (corners-range (cell-in z o))))
@@ -144,18 +145,18 @@ module _ {s : Shape} (z : Extent s) {S : List ℤ} (p : Sound s S) where
     component-nearest : Nearest (s .dlon * s .dlat) (surface (s .dlon) (s .dlat) (s .cols - 2) (s .rows - 2) (raisedNodes (s .cols) S) x y) (raise (componentIn (s .cols) S k))
     component-nearest =
         let c = cell-in z o in
-        nearest-raised 6000000 (s .dlon * s .dlat) _ _ _ (mul-pos (spacings z .0) (spacings z .1)) numerator-is (raise-is (component-range c) ∙ ap (λ t. t +ℤ pos 6000000) (component-is c))
+        nearest-raised maxShift (s .dlon * s .dlat) _ _ _ (mul-pos (spacings z .0) (spacings z .1)) numerator-is (raise-is (component-range c) ∙ ap (λ t. t +ℤ pos maxShift) (component-is c))
 
   -- "On a side shared by two cells either cell gives the same shift"
   pub shared-side : {x y : ℕ} {k k' : Cell} → CellOf s x y k → CellOf s x y k' → componentIn (s .cols) S k ≡ componentIn (s .cols) S k'
   shared-side o o' =
       component-is (cell-in z o)
-      ∙ ap (nearest (s .dlon * s .dlat)) (lowered (6000000 * (s .dlon * s .dlat)) _ _ (sym (numerator-is o) ∙ numerator-is o'))
+      ∙ ap (nearest (s .dlon * s .dlat)) (lowered (maxShift * (s .dlon * s .dlat)) _ _ (sym (numerator-is o) ∙ numerator-is o'))
       ∙ sym (component-is (cell-in z o'))
 
   -- at a point of the grid
   module _ {x y : ℕ} (hx : x ≤ (s .cols - 1) * s .dlon) (hy : y ≤ (s .rows - 1) * s .dlat) where
-    pub shift-range : Within 6000000 (component s S x y)
+    pub shift-range : Within maxShift (component s S x y)
     unfolding component
     shift-range = component-range (cell-in z (cell-of-point z hx hy))
 
@@ -189,11 +190,11 @@ module _ {s : Shape} (z : Extent s) {S : List ℤ} (p : Sound s S) where
       let hx : s .dlon * c ≤ (s .cols - 1) * s .dlon = rw (← edges z .0) (mul-le-mul-left (s .dlon) (omega arith)) in
       let hy : s .dlat * r ≤ (s .rows - 1) * s .dlat = rw (← edges z .1) (mul-le-mul-left (s .dlat) (omega arith)) in
       let e = shift-node (s .dlon) (s .dlat) (s .cols - 2) (s .rows - 2) (spacings z .0) (spacings z .1) (raisedNodes (s .cols) S) _ nearest-everywhere r c (omega (arith, z)) (omega (arith, z)) in
-      lowered 6000000 _ _ (sym (raise-is (shift-range hx hy)) ∙ ap pos e ∙ raise-is (node-range r c hr hc))
+      lowered maxShift _ _ (sym (raise-is (shift-range hx hy)) ∙ ap pos e ∙ raise-is (node-range r c hr hc))
 
   -- and at every point it lies between the least and the greatest corner of any cell of the point
-  module _ {x y : ℕ} {k : Cell} (o : CellOf s x y k) {lo hi : ℤ} (l : Within 6000000 lo) (h : Within 6000000 hi) where
-    raised-among : {S' : ℤ} → Within 6000000 S' → Between lo S' hi → Among (raise lo) (raise hi) (raise S')
+  module _ {x y : ℕ} {k : Cell} (o : CellOf s x y k) {lo hi : ℤ} (l : Within maxShift lo) (h : Within maxShift hi) where
+    raised-among : {S' : ℤ} → Within maxShift S' → Between lo S' hi → Among (raise lo) (raise hi) (raise S')
     raised-among w b = record { low = omega (arith, ints, b .low, raise-by l, raise-by w); high = omega (arith, ints, b .high, raise-by h, raise-by w) }
 
     pub between-corners : (let t = corners o in Between lo (t .s1) hi × Between lo (t .s2) hi × Between lo (t .s3) hi × Between lo (t .s4) hi)
@@ -211,12 +212,12 @@ module _ {g : Grid} (ok : Good g) {x y : ℕ}
     (hx : x ≤ (shape (g .header) .cols - 1) * shape (g .header) .dlon) (hy : y ≤ (shape (g .header) .rows - 1) * shape (g .header) .dlat) where
   -- the routine refuses no point of it
   pub shift-answered : shiftAt g x y ≡ answered (shiftOf (shape (g .header)) (g .lat) (g .lon) x y)
-  unfolding component
+  unfolding component shiftAt
   shift-answered =
       let z = extent (ok .header) in
       let c = cell-in z (cell-of-point z hx hy) in
       let i = corners-range z (ok .of-lat) c in
       let j = corners-range z (ok .of-lon) c in
-      sym (layout-passes g x y (sym (ok .laid-out)))
+      sym (passed-first _ (sym (ok .laid-out)))
       ∙ sym (on-grid (shape (g .header)) (g .lat) (g .lon) x y hx hy)
       ∙ sym (none-beyond (shape (g .header)) (g .lat) (g .lon) (cellAt (shape (g .header)) x y) (node-not-beyond (g .lat) (g .lon) _ (i .sw) (j .sw)) (node-not-beyond (g .lat) (g .lon) _ (i .se) (j .se)) (node-not-beyond (g .lat) (g .lon) _ (i .nw) (j .nw)) (node-not-beyond (g .lat) (g .lon) _ (i .ne) (j .ne)))

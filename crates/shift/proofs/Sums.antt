@@ -11,13 +11,14 @@ use Rattle.shift.specs.Needs.{Weighted, CornersIn}
 use Rattle.shift.specs.declared.Cell.{Cell}
 use Rattle.shift.specs.declared.Corners.{Corners}
 use Rattle.shift.proofs.Rounding.{nearest-within}
+use Rattle.grid.specs.Nodes.{maxShift}
 
 term-size : (S : ℤ) (p q : ℕ) → natAbs (S *ℤ pos p *ℤ pos q) ≡ natAbs S * p * q
 term-size S p q = abs-mul (S *ℤ pos p) (pos q) ∙ ap (λ t. t * q) (abs-mul S (pos p))
 
 module _ (s : Corners) (k : Cell) (i : CornersIn s) where
   sizes : natAbs (s .s1) * k .b * k .d + natAbs (s .s2) * k .a * k .d + natAbs (s .s3) * k .b * k .c + natAbs (s .s4) * k .a * k .c
-      ≤ (k .a + k .b) * (k .c + k .d) * 6000000
+      ≤ (k .a + k .b) * (k .c + k .d) * maxShift
   sizes =
       omega
       (arith, mul-le-mul-right (k .b * k .d) (i .sw .size), mul-le-mul-right (k .a * k .d) (i .se .size), mul-le-mul-right (k .b * k .c) (i .nw .size), mul-le-mul-right (k .a * k .c) (i .ne .size))
@@ -42,7 +43,7 @@ module _ (s : Corners) (k : Cell) (i : CornersIn s) where
   four-size : natAbs four ≤ natAbs (s .s1) * k .b * k .d + natAbs (s .s2) * k .a * k .d + natAbs (s .s3) * k .b * k .c + natAbs (s .s4) * k .a * k .c
   four-size = omega (arith, three-size, term-size (s .s4) (k .a) (k .c), abs-add three (s .s4 *ℤ pos (k .a) *ℤ pos (k .c)))
 
-  pub numerator-within : Within ((k .a + k .b) * (k .c + k .d) * 6000000) (numerator s k)
+  pub numerator-within : Within ((k .a + k .b) * (k .c + k .d) * maxShift) (numerator s k)
   unfolding numerator
   numerator-within = record { size = omega (arith, four-size, sizes) }
 
@@ -61,6 +62,6 @@ module _ (s : Corners) (k : Cell) (i : CornersIn s) where
     four-within = record { size = omega (arith, four-size, sizes, whole) }
 
     -- and a mean of shifts in range is in range
-    pub four-corner-within : Within 6000000 (fourCorner s k)
+    pub four-corner-within : Within maxShift (fourCorner s k)
     unfolding fourCorner
-    four-corner-within = nearest-within 6000000 ((k .a + k .b) * (k .c + k .d)) _ (mul-pos (w .wide) (w .high)) numerator-within
+    four-corner-within = nearest-within maxShift ((k .a + k .b) * (k .c + k .d)) _ (mul-pos (w .wide) (w .high)) numerator-within

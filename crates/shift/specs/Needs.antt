@@ -5,6 +5,7 @@ use Rattle.laws.specs.Parts.{Within}
 use Rattle.grid.specs.declared.Shape.{Shape}
 use Rattle.shift.specs.declared.Cell.{Cell}
 use Rattle.shift.specs.declared.Corners.{Corners}
+use Rattle.grid.specs.Nodes.{maxShift}
 
 -- a cell of the grid, with distances that make up its sides
 pub record CellIn (s : Shape) (k : Cell) : Type 0 where
@@ -22,7 +23,7 @@ pub record Weighted (k : Cell) : Type 0 where
 
 -- corners in their range
 pub record CornersIn (s : Corners) : Type 0 where
-  pub sw : Within 6000000 (s .s1)
-  pub se : Within 6000000 (s .s2)
-  pub nw : Within 6000000 (s .s3)
-  pub ne : Within 6000000 (s .s4)
+  pub sw : Within maxShift (s .s1)
+  pub se : Within maxShift (s .s2)
+  pub nw : Within maxShift (s .s3)
+  pub ne : Within maxShift (s .s4)

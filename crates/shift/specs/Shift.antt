@@ -9,7 +9,7 @@ use Rattle.bilinear.specs.Axis.{cellOf}
 use Rattle.figures.specs.Outcome.{Outcome, answered, refusal, andThen, refuseIf}
 use Rattle.grid.specs.Grid.{Grid}
 use Rattle.grid.specs.Rules.{shape}
-use Rattle.grid.specs.Nodes.{node, outOfRange}
+use Rattle.grid.specs.Nodes.{maxShift, node, outOfRange}
 use Rattle.grid.specs.Check.{layout}
 use Rattle.grid.specs.declared.Shape.{Shape}
 use Rattle.shift.specs.Round.{nearest}
@@ -88,4 +88,4 @@ shiftAt g x y = andThen (layout g) (shiftOn (shape (g .header)) (g .lat) (g .lon
 
 -- a shift in its range, raised so that it is a natural number: for the search of the way back, and for the theorems
 unfoldable pub raise : ℤ → ℕ
-raise z = posPart (z +ℤ pos 6000000)
+raise z = posPart (z +ℤ pos maxShift)

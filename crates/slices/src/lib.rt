@@ -32,6 +32,7 @@ pub fn put_byte(bytes: &mut [u8], k: usize, byte: u8)
     }
 }
 
+// The lesser of two numbers: a place, or the end of a slice.
 pub fn least(a: usize, b: usize) -> usize
     ensures { λ r. ⌜ r ≡ min a b ⌝ }
 {

@@ -20,7 +20,7 @@ use Rattle.grid.specs.Nodes.{beyondRange}
 use Rattle.grid.specs.Check.{layout, steepness, Passes}
 use Rattle.grid.specs.declared.Header.{Header}
 use Rattle.grid.proofs.Passing.{laid}
-use Rattle.lines.specs.Text.{newline, line, pairLine}
+use Rattle.lines.specs.Text.{newline, listed, line}
 use Rattle.grid_text.specs.Text.{headerText, nodeLine, nodeLines, gridText}
 use Rattle.grid_reader.specs.Reading.{word, field, comma, nothing, ending, nodes, reading}
 use Rattle.grid_reader.proofs.NodesSoFar.{NodesSoFar, no-node, one-node, left-to-judge}
@@ -54,8 +54,8 @@ module _ {A : Type 0} {g : A} where
       (w .0, w .1, f .1 ∙ ap (λ (q : List ℕ). key ++ q) (w .2), w .4)
 
   line-there : (n : ℕ) (key t : List ℕ) (next : ℤ → List ℕ → Outcome A) → field n newline key t next ≡ answered g
-      → (x : ℤ) × (u : List ℕ) × (t ≡ line key x ++ u) × (next x u ≡ answered g)
-  unfolding line
+      → (x : ℤ) × (u : List ℕ) × (t ≡ line key (x ∷ []) ++ u) × (next x u ≡ answered g)
+  unfolding line listed
   line-there n key t next e =
       let f = field-there n newline key t next e in
       (f .0, f .1, f .2 ∙ regroup key (spell (f .0)) (bytes "\n") (f .1), f .3)
@@ -73,17 +73,17 @@ nothing-there n [] o e = (refl, e)
 nothing-there n (b ∷ t) o e = absurd (answer-not-refusal (sym e))
 
 pub node-text : (a b : ℤ) (u : List ℕ) → bytes "node=" ++ (spell a ++ (comma ∷ (spell b ++ (newline ∷ u)))) ≡ nodeLine a b ++ u
-unfolding nodeLine pairLine
+unfolding nodeLine line listed
 node-text a b u = go (bytes "node=") (spell a) (bytes ",") (spell b) (bytes "\n")
   where
-    go : (p q r s t : List ℕ) → p ++ (q ++ (r ++ (s ++ (t ++ u)))) ≡ (p ++ q ++ r ++ s ++ t) ++ u
+    go : (p q r s t : List ℕ) → p ++ (q ++ (r ++ (s ++ (t ++ u)))) ≡ (p ++ (q ++ r ++ s) ++ t) ++ u
     go p q r s t = simp append-assoc
 
 module _ (h : Header) where
   -- what was read of the nodes, and the rest of the text
   abbrev Rest : (k : ℕ) (xs ys : List ℤ) → List ℕ → Grid → Type 0
   Rest k xs ys t g =
-      (g .header ≡ h) × (nodeLines xs ys k ++ t ≡ nodeLines (g .lat) (g .lon) (nodeCount h) ++ line (bytes "end=") (pos (nodeCount h)))
+      (g .header ≡ h) × (nodeLines xs ys k ++ t ≡ nodeLines (g .lat) (g .lon) (nodeCount h) ++ line (bytes "end=") (pos (nodeCount h) ∷ []))
       × Passes g × (length (g .lat) ≡ nodeCount h) × (length (g .lon) ≡ nodeCount h)
 
   module _ (unbroken : brokenRule h ≡ 0) where
@@ -98,7 +98,7 @@ module _ (h : Header) where
         let c : f .0 ≡ pos n = eqZ-holds (not-false (eqZ (f .0) (pos n)) (r .0)) in
         let o = nothing-there (10 + n) (f .1) last (r .1) in
         let v = both-answered (steepness (shape h) xs ys) (answered grid) (o .1) in
-        let t-is : t ≡ line (bytes "end=") (pos n) = f .2 ∙ (λ i. line (bytes "end=") (c i) ++ o .0 i) ∙ append-nil (line (bytes "end=") (pos n)) in
+        let t-is : t ≡ line (bytes "end=") (pos n ∷ []) = f .2 ∙ (λ i. line (bytes "end=") (c i ∷ []) ++ o .0 i) ∙ append-nil (line (bytes "end=") (pos n ∷ [])) in
         subst (λ (q : Grid). Rest (nodeCount h) xs ys t q) (same-answer (v .1))
         (refl, ap (λ (q : List ℕ). nodeLines xs ys n ++ q) t-is, left-to-judge h xs ys unbroken s ∙ v .0 .1, s .lats, s .lons)
 
@@ -130,13 +130,13 @@ eight : (a b c d e f g h t : List ℕ) → a ++ (b ++ (c ++ (d ++ (e ++ (f ++ (g
 eight a b c d e f g h t = simp append-assoc
 
 pub header-text : (h : Header) (t : List ℕ)
-    → bytes "from=NAD27\n" ++ (bytes "to=NAD83\n" ++ (line (bytes "south=") (h .south .0) ++ (line (bytes "west=") (h .west .0) ++ (line (bytes "dlat=") (h .dlat)
-    ++ (line (bytes "dlon=") (h .dlon) ++ (line (bytes "rows=") (h .rows) ++ (line (bytes "cols=") (h .cols) ++ t)))))))
+    → bytes "from=NAD27\n" ++ (bytes "to=NAD83\n" ++ (line (bytes "south=") (h .south .0 ∷ []) ++ (line (bytes "west=") (h .west .0 ∷ []) ++ (line (bytes "dlat=") (h .dlat ∷ [])
+    ++ (line (bytes "dlon=") (h .dlon ∷ []) ++ (line (bytes "rows=") (h .rows ∷ []) ++ (line (bytes "cols=") (h .cols ∷ []) ++ t)))))))
     ≡ headerText h ++ t
 unfolding headerText
 header-text h t =
-    eight (bytes "from=NAD27\n") (bytes "to=NAD83\n") (line (bytes "south=") (h .south .0)) (line (bytes "west=") (h .west .0)) (line (bytes "dlat=") (h .dlat))
-    (line (bytes "dlon=") (h .dlon)) (line (bytes "rows=") (h .rows)) (line (bytes "cols=") (h .cols)) t
+    eight (bytes "from=NAD27\n") (bytes "to=NAD83\n") (line (bytes "south=") (h .south .0 ∷ [])) (line (bytes "west=") (h .west .0 ∷ [])) (line (bytes "dlat=") (h .dlat ∷ []))
+    (line (bytes "dlon=") (h .dlon ∷ [])) (line (bytes "rows=") (h .rows ∷ [])) (line (bytes "cols=") (h .cols ∷ [])) t
 
 zero-left : (n : ℕ) → 0 + n ≡ n
 zero-left n = omega arith
@@ -147,8 +147,8 @@ whole h text rest g e r =
     record {
       same =
           e ∙ ap (λ (t : List ℕ). headerText h ++ t) (r .1)
-          ∙ sym (append-assoc (headerText h) (nodeLines (g .lat) (g .lon) (nodeCount h)) (line (bytes "end=") (pos (nodeCount h))))
-          ∙ ap (λ (k : Header). headerText k ++ nodeLines (g .lat) (g .lon) (nodeCount k) ++ line (bytes "end=") (pos (nodeCount k))) (sym (r .0));
+          ∙ sym (append-assoc (headerText h) (nodeLines (g .lat) (g .lon) (nodeCount h)) (line (bytes "end=") (pos (nodeCount h) ∷ [])))
+          ∙ ap (λ (k : Header). headerText k ++ nodeLines (g .lat) (g .lon) (nodeCount k) ++ line (bytes "end=") (pos (nodeCount k) ∷ [])) (sym (r .0));
       passes = r .2;
       lats = r .3 ∙ ap nodeCount (sym (r .0));
       lons = r .4 ∙ ap nodeCount (sym (r .0));
@@ -172,10 +172,10 @@ accepted text lat lon g e =
     l₁ .1
     ∙ ap (λ (t : List ℕ). bytes "from=NAD27\n" ++ t)
     (l₂ .1 ∙ ap (λ (t : List ℕ). bytes "to=NAD83\n" ++ t)
-    (l₃ .2 ∙ ap (λ (t : List ℕ). line (bytes "south=") (l₃ .0) ++ t)
-    (l₄ .2 ∙ ap (λ (t : List ℕ). line (bytes "west=") (l₄ .0) ++ t)
-    (l₅ .2 ∙ ap (λ (t : List ℕ). line (bytes "dlat=") (l₅ .0) ++ t)
-    (l₆ .2 ∙ ap (λ (t : List ℕ). line (bytes "dlon=") (l₆ .0) ++ t)
-    (l₇ .2 ∙ ap (λ (t : List ℕ). line (bytes "rows=") (l₇ .0) ++ t) (l₈ .2)))))))
+    (l₃ .2 ∙ ap (λ (t : List ℕ). line (bytes "south=") (l₃ .0 ∷ []) ++ t)
+    (l₄ .2 ∙ ap (λ (t : List ℕ). line (bytes "west=") (l₄ .0 ∷ []) ++ t)
+    (l₅ .2 ∙ ap (λ (t : List ℕ). line (bytes "dlat=") (l₅ .0 ∷ []) ++ t)
+    (l₆ .2 ∙ ap (λ (t : List ℕ). line (bytes "dlon=") (l₆ .0 ∷ []) ++ t)
+    (l₇ .2 ∙ ap (λ (t : List ℕ). line (bytes "rows=") (l₇ .0 ∷ []) ++ t) (l₈ .2)))))))
     ∙ header-text h (l₈ .1) in
     whole h text (l₈ .1) g t-is r

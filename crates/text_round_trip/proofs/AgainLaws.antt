@@ -2,9 +2,8 @@
 use Prim.Native.Nat.{ℕ, _≤_}
 use mathlib.Core.Path.{_≡_, refl, sym, ap, _∙_}
 use mathlib.Core.Bool.{Bool, true, false, _||_}
-use mathlib.Core.List.{List, _++_}
+use mathlib.Core.List.{List, [], _∷_, _++_}
 use native.Mathlib.Omega.{arith}
-use borrow.Author.Tests.{le-ltb}
 use lib.Dec.{ltb}
 use lib.ListN.{length, take, drop}
 use lib.IntN.{ℤ, pos}
@@ -19,7 +18,8 @@ use Rattle.grid.specs.declared.Header.{Header}
 use Rattle.grid.proofs.Passing.{good}
 use Rattle.grid.proofs.Front.{verdict-front}
 use Rattle.lines.specs.Text.{line}
-use Rattle.lines.specs.Writing.{roomAfter, fitted}
+use Rattle.writing.specs.Writing.{inRoom, roomAfter}
+use Rattle.writing.proofs.Laws.{fits}
 use Rattle.grid_text.specs.Text.{headerText, gridText}
 use Rattle.grid_text.specs.Writing.{writing}
 use Rattle.grid_text.proofs.Lengths.{text-length}
@@ -54,7 +54,7 @@ module _ (text room : List ℕ) where
       let p : take (nodeCount h) x ≡ g .lat = over-take (g .lat) z (nodeCount h) (a .lats) in
       let q : take (nodeCount h) y ≡ g .lon = over-take (g .lon) w (nodeCount h) (a .lons) in (
         sym (verdict-front (gridOf h x y)) ∙ (λ i. verdict (gridOf h (p i) (q i))) ∙ a .passes,
-        ap (λ (t : List ℕ). (headerText h ++ t) ++ line (bytes "end=") (pos (nodeCount h)))
+        ap (λ (t : List ℕ). (headerText h ++ t) ++ line (bytes "end=") (pos (nodeCount h) ∷ []))
             (lines-front (g .lat) (g .lon) (drop (length (g .lat)) z) (drop (length (g .lon)) w) (nodeCount h) (omega (arith, a .lats)) (omega (arith, a .lons)))
             ∙ sym (a .same),
       )
@@ -81,15 +81,15 @@ module _ (g : Grid) where
 
   -- a room of 48,000 bytes is enough
   module _ (room : List ℕ) (long : length room ≡ 48000) where
-    fits : Passes g → writing g room ≡ answered (length text)
-    unfolding writing fitted
-    fits p = rw (p, le-ltb (length room) (length text) (omega (arith, text-length g p)))
+    written-whole : Passes g → writing g room ≡ answered (length text)
+    unfolding writing
+    written-whole p = rw p (fits text room (omega (arith, text-length g p)))
 
     written : {n : ℕ} → answered n ≡ writing g room → Passes g × (n ≡ length text)
     unfolding writing
     written e =
-        let p = both-answered (verdict g) (fitted (length text) (length room)) (sym e) .0 .1 in
-        (p, same-answer (e ∙ fits p))
+        let p = both-answered (verdict g) (inRoom text room) (sym e) .0 .1 in
+        (p, same-answer (e ∙ written-whole p))
 
     pub grid-refused : {n k : ℕ} (lats lons : List ℤ) → refused n k ≡ writing g room
         → (refused n k ≡ gridAgain g lats lons) × ((lats ≡ nodesAgain (refused n k) (g .lat) lats) × (lons ≡ nodesAgain (refused n k) (g .lon) lons))
@@ -97,7 +97,7 @@ module _ (g : Grid) where
     grid-refused {n} {k} lats lons e = (go (verdict g) refl e, (refl, refl))
       where
         go : (o : Outcome Unit) → verdict g ≡ o → refused n k ≡ writing g room → refused n k ≡ gridAgain g lats lons
-        go (answered tt) q e = absurd (answer-not-refusal (sym (e ∙ fits q)))
+        go (answered tt) q e = absurd (answer-not-refusal (sym (e ∙ written-whole q)))
         go (refused m j) q e = rw q (same-refusal (e ∙ rw q))
 
     -- what the reader is lent

@@ -15,13 +15,13 @@ use Rattle.figures.specs.Outcome.{Outcome, answered, andThen, refuseIf}
 use Rattle.decimal.specs.Spelling.{spell, Short}
 use Rattle.grid.specs.Grid.{Grid, gridOf, trimmed}
 use Rattle.grid.specs.Rules.{minus, nodeCount, shape}
-use Rattle.grid.specs.Nodes.{node, beyondRange}
+use Rattle.grid.specs.Nodes.{maxShift, node, beyondRange}
 use Rattle.grid.specs.Check.{layout, steepness, Passes}
 use Rattle.grid.proofs.RuleLaws.{Between, between-within, extent}
 use Rattle.grid.proofs.NodeLaws.{not-beyond}
 use Rattle.grid.proofs.Passing.{Good, good, laid, passes-steepness}
 use Rattle.grid.proofs.Front.{verdict-front}
-use Rattle.lines.specs.Text.{newline, line}
+use Rattle.lines.specs.Text.{newline, listed, line}
 use Rattle.grid_text.specs.Text.{headerText, nodeLine, nodeLines, gridText}
 use Rattle.grid_reader.specs.Reading.{word, field, comma, nothing, ending, nodes, reading}
 use Rattle.text_round_trip.proofs.Parsing.{fixed-here, word-here}
@@ -42,8 +42,8 @@ module _ {A : Type 0} where
       → field n stop key (key ++ (spell x ++ (stop ∷ t))) next ≡ next x t
   field-here n stop key t x next s l = fixed-here n key (spell x ++ (stop ∷ t)) (λ v. word n stop [] v next) ∙ word-here n stop next x s l t
 
-  line-here : (n : ℕ) (key t : List ℕ) (x : ℤ) (next : ℤ → List ℕ → Outcome A) → Short x → field n newline key (line key x ++ t) next ≡ next x t
-  unfolding line
+  line-here : (n : ℕ) (key t : List ℕ) (x : ℤ) (next : ℤ → List ℕ → Outcome A) → Short x → field n newline key (line key (x ∷ []) ++ t) next ≡ next x t
+  unfolding line listed
   line-here n key t x next s =
       ap (λ (q : List ℕ). field n newline key q next) (regroup key (spell x) (bytes "\n"))
       ∙ field-here n newline key t x next s (omega arith)
@@ -68,15 +68,15 @@ module _ (g : Grid) (p : Passes g) where
   unfolding nodes
   node-here left k t l =
       ap (λ (q : List ℕ). field (9 + k) comma (bytes "node=") q next) (sym (node-text (node (g .lat) k) (node (g .lon) k) t))
-      ∙ field-here (9 + k) comma (bytes "node=") (spell (node (g .lon) k) ++ (newline ∷ t)) (node (g .lat) k) next (within-short 6000000 of-lat (omega arith)) (omega arith)
+      ∙ field-here (9 + k) comma (bytes "node=") (spell (node (g .lon) k) ++ (newline ∷ t)) (node (g .lat) k) next (within-short maxShift of-lat (omega arith)) (omega arith)
       ∙ word-here (9 + k) newline (λ b u. refuseIf (beyondRange (node (g .lat) k) || beyondRange b) 3 k (nodes (g .header) left (suc k) (take k (g .lat) ++ (node (g .lat) k ∷ [])) (take k (g .lon) ++ (b ∷ [])) u))
-      (node (g .lon) k) (within-short 6000000 of-lon (omega arith)) (omega arith) t
+      (node (g .lon) k) (within-short maxShift of-lon (omega arith)) (omega arith) t
       ∙ rw (not-beyond of-lat, not-beyond of-lon, take-suc (g .lat) k (pos 0) (omega (arith, roomy)), take-suc (g .lon) k (pos 0) (omega (arith, roomy)))
     where
-      of-lat : Within 6000000 (node (g .lat) k)
+      of-lat : Within maxShift (node (g .lat) k)
       of-lat = checked .of-lat .ranged .range k l
 
-      of-lon : Within 6000000 (node (g .lon) k)
+      of-lon : Within maxShift (node (g .lon) k)
       of-lon = checked .of-lon .ranged .range k l
 
       next : ℤ → List ℕ → Outcome Grid
@@ -90,10 +90,10 @@ module _ (g : Grid) (p : Passes g) where
       ∙ nodes-here k (suc left) (omega arith) (nodeLine (node (g .lat) k) (node (g .lon) k) ++ t)
       ∙ node-here left k t (omega arith)
 
-  end-here : nodes (g .header) 0 n (take n (g .lat)) (take n (g .lon)) (line (bytes "end=") (pos n)) ≡ answered (trimmed g)
+  end-here : nodes (g .header) 0 n (take n (g .lat)) (take n (g .lon)) (line (bytes "end=") (pos n ∷ [])) ≡ answered (trimmed g)
   unfolding nodes ending
   end-here =
-      ap (λ (q : List ℕ). field (9 + n) newline (bytes "end=") q next) (sym (append-nil (line (bytes "end=") (pos n))))
+      ap (λ (q : List ℕ). field (9 + n) newline (bytes "end=") q next) (sym (append-nil (line (bytes "end=") (pos n ∷ []))))
       ∙ line-here (9 + n) (bytes "end=") [] (pos n) next (omega (arith, extent (checked .header) .nodes))
       ∙ rw (eqZ-true {a = pos n} refl, passes-steepness (trimmed g) (verdict-front g ∙ p))
     where
@@ -105,8 +105,8 @@ module _ (g : Grid) (p : Passes g) where
   unfolding reading gridText
   read-back lats lons =
       let k = checked .header in
-      let t = nodeLines (g .lat) (g .lon) n ++ line (bytes "end=") (pos n) in
-      ap (λ (q : List ℕ). reading q lats lons) (append-assoc (headerText (g .header)) (nodeLines (g .lat) (g .lon) n) (line (bytes "end=") (pos n)) ∙ sym (header-text (g .header) t))
+      let t = nodeLines (g .lat) (g .lon) n ++ line (bytes "end=") (pos n ∷ []) in
+      ap (λ (q : List ℕ). reading q lats lons) (append-assoc (headerText (g .header)) (nodeLines (g .lat) (g .lon) n) (line (bytes "end=") (pos n ∷ [])) ∙ sym (header-text (g .header) t))
       ∙ fixed-here 1 (bytes "from=NAD27\n") _ _
       ∙ fixed-here 2 (bytes "to=NAD83\n") _ _
       ∙ line-here 3 (bytes "south=") _ (g .header .south .0) _ (between-short 323940000 (k .south) (own-size (minus 323940000)) (own-size (pos 323940000)) (omega arith))
@@ -115,4 +115,4 @@ module _ (g : Grid) (p : Passes g) where
       ∙ line-here 6 (bytes "dlon=") _ (g .header .dlon) _ (between-short 900000 (k .dlon) (widen (own-size (pos 1000)) tt) (own-size (pos 900000)) (omega arith))
       ∙ line-here 7 (bytes "rows=") _ (g .header .rows) _ (between-short 256 (k .rows) (widen (own-size (pos 2)) tt) (own-size (pos 256)) (omega arith))
       ∙ line-here 8 (bytes "cols=") t (g .header .cols) _ (between-short 256 (k .cols) (widen (own-size (pos 2)) tt) (own-size (pos 256)) (omega arith))
-      ∙ ap (andThen (layout (gridOf (g .header) lats lons))) (nodes-here n 0 (omega arith) (line (bytes "end=") (pos n)) ∙ end-here)
+      ∙ ap (andThen (layout (gridOf (g .header) lats lons))) (nodes-here n 0 (omega arith) (line (bytes "end=") (pos n ∷ [])) ∙ end-here)

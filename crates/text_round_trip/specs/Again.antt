@@ -8,7 +8,7 @@ use lib.ListN.{length, take, replicate}
 use lib.IntN.{ℤ, pos}
 use Rattle.figures.specs.Outcome.{Outcome, answered, refused, andThen, refuseIf}
 use Rattle.laws.specs.Over.{over}
-use Rattle.lines.specs.Writing.{fitted}
+use Rattle.writing.specs.Writing.{inRoom}
 use Rattle.grid.specs.Grid.{Grid}
 use Rattle.grid.specs.Rules.{nodeCount}
 use Rattle.grid.specs.Check.{verdict}
@@ -21,8 +21,7 @@ scratch = replicate 2048 (pos 0)
 
 -- a text that is refused is refused alike; one that is accepted is written again, as many bytes as it has
 unfoldable pub textAgain : (text room : List ℕ) → Outcome ℕ
-textAgain text room =
-    andThen (reading text scratch scratch) (fitted (length text) (length room))
+textAgain text room = andThen (reading text scratch scratch) (inRoom text room)
 
 -- a grid that is refused is refused alike; one that passes comes back, where there is room for its nodes
 unfoldable pub gridAgain : Grid → (latRoom lonRoom : List ℤ) → Outcome Header

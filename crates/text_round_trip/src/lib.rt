@@ -1,17 +1,17 @@
 // There and back in text, on the real reader and writer.
 use grid::Header;
 use grid_reader::GridRead;
-use lines::Written;
+use writing::Written;
 ghost use mathlib.Core.Path.{_≡_};
-ghost use Rattle.lines.specs.Writing.{outcome, roomAfter};
+ghost use Rattle.writing.specs.Writing.{roomAfter, writtenOutcome};
 ghost use Rattle.grid.specs.Grid.{gridOf};
 ghost use Rattle.grid_reader.specs.Reading.{outcome as read-outcome};
 ghost use Rattle.text_round_trip.specs.Again.{textAgain, gridAgain, nodesAgain};
 
 // Reads a text and writes its grid again: the same text.
 pub fn read_and_write(text: &[u8], room: &mut [u8]) -> Written
-    ensures answer { λ r. ⌜ outcome r ≡ textAgain (now (text .entry)) (now (room .entry)) ⌝ }
-    ensures room { λ r. ⌜ now (room .exit) ≡ roomAfter (outcome r) (now (text .entry)) (now (room .entry)) ⌝ }
+    ensures answer { λ r. ⌜ writtenOutcome r ≡ textAgain (now (text .entry)) (now (room .entry)) ⌝ }
+    ensures room { λ r. ⌜ now (room .exit) ≡ roomAfter (writtenOutcome r) (now (text .entry)) (now (room .entry)) ⌝ }
 {
     let mut lat = [0i64; 2048];
     let mut lon = [0i64; 2048];

@@ -1,7 +1,7 @@
 // A text that is accepted, read and written again.
 use super::bytes::byte_at;
 use super::bytes::stands;
-use lines::Written;
+use writing::Written;
 
 // Whether it comes again, with the byte behind it as it was, and is refused where the room is one byte too short.
 pub(crate) fn comes_again(text: &[u8]) -> bool {

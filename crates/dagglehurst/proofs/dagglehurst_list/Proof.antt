@@ -1,6 +1,6 @@
 use borrow.Author.Needs.{needs}
 use mathlib.Core.Path.{ap, _∙_}
-use Rattle.lines.specs.Writing.{roomAfter}
+use Rattle.writing.specs.Writing.{roomAfter}
 use Rattle.grid.specs.Rules.{nodesOf}
 use Rattle.requests.specs.Replies.{checkedAfresh}
 use Rattle.listing.specs.Listing.{listText}

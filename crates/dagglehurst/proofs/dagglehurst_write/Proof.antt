@@ -1,6 +1,6 @@
 use borrow.Author.Needs.{needs}
 use mathlib.Core.Path.{ap, _∙_}
-use Rattle.lines.specs.Writing.{roomAfter}
+use Rattle.writing.specs.Writing.{roomAfter}
 use Rattle.grid_text.specs.Text.{gridText}
 use Rattle.dagglehurst.specs.Reply.{reply}
 use Rattle.dagglehurst.specs.Header.{gridIn}

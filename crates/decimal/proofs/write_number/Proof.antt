@@ -1,32 +1,42 @@
 use borrow.Author.Needs.{needs}
 use native.Mathlib.Omega.{arith}
-use mathlib.Core.Path.{_≡_, sym}
-use lib.ListN.{length}
 use mir.Facts.{toZ-ofZ}
-use Rattle.decimal.specs.Spelling.{spell}
-use Rattle.decimal.proofs.Over.{written-none, wrote-written}
+use Rattle.writing.proofs.Laws.{wrote-fits}
+use Rattle.decimal.proofs.Lengths.{length-i64}
 use Rattle.decimal.proofs.write_number.Statement.{statement}
 use Rattle.decimal.proofs.write_number.Tie as tie
 
--- the bytes that were looked for
-needed : (c : tie.After-spelled-length) → c .spelled-length .result ≡ length (spell (c .before .before .args .x))
-needed c = (rw (toZ-ofZ (c .before .before .fits .x)) at (c .spelled-length .ensures)) .0
-
-spelled-length-requires : tie.Need-spelled-length-requires
-spelled-length-requires c κs = search needs
-
-returns : tie.Need-returns
-returns c = (needed (c .before), sym (written-none _ _ (omega (arith, needed (c .before), c .if1 .taken))))
-
-put-number-requires : tie.Need-put-number-requires
-put-number-requires c κs = search needs
+write-counted-requires : tie.Need-write-counted-requires
+write-counted-requires c κs = search needs
 
 same-length : tie.Need-same-length
 same-length c = search needs
 
+returns : tie.Need-returns
+returns c =
+    let w = c .before .before in
+    rw (toZ-ofZ (w .before .before .before .before .fits .x)) at (w .write-counted .ensures)
+
+put-number-requires : tie.Need-put-number-requires
+put-number-requires c κs = search needs
+
+same-length-2 : tie.Need-same-length-2
+same-length-2 c = search needs
+
 returns-2 : tie.Need-returns-2
-returns-2 c = wrote-written (rw (toZ-ofZ (c .before .before .before .before .before .before .before .fits .x)) at (c .before .before .put-number .ensures)) (omega (arith, needed (c .before .before .before .before .before), c .before .before .before .before .if1 .left))
+returns-2 c =
+    let p = c .before .before in
+    let e = p .before .before in
+    let s = e .before .before in
+    wrote-fits (rw (toZ-ofZ (s .fits .x)) at (p .put-number .ensures)) (omega (arith, length-i64 (s .fits .x), e .if1 .left)) (omega arith)
 
 pub write-number-spec : {M : Type 1} → statement M
 write-number-spec =
-    tie.close (tie.spec spelled-length-requires returns put-number-requires same-length returns-2)
+    tie.close
+    (tie.spec
+    write-counted-requires
+    same-length
+    returns
+    put-number-requires
+    same-length-2
+    returns-2)

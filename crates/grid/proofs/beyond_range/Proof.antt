@@ -4,7 +4,7 @@ use mathlib.Core.Bool.{not}
 use lib.IntN.{pos}
 use mir.Facts.{toZ-ofZ}
 use Rattle.grid.specs.Rules.{between, minus}
-use Rattle.grid.specs.Nodes.{beyondRange}
+use Rattle.grid.specs.Nodes.{maxShift, beyondRange}
 use Rattle.grid.proofs.beyond_range.Statement.{statement}
 use Rattle.grid.proofs.beyond_range.Tie as tie
 
@@ -16,7 +16,7 @@ between-requires c κs = search needs
 
 returns : tie.Need-returns
 unfolding beyondRange
-returns c = ap not (c .between .ensures ∙ ap (λ z. between (minus 6000000) z (pos 6000000)) (toZ-ofZ (c .before .fits .shift)))
+returns c = ap not (c .between .ensures ∙ ap (λ z. between (minus maxShift) z (pos maxShift)) (toZ-ofZ (c .before .fits .shift)))
 
 pub beyond-range-spec : {M : Type 1} → statement M
 beyond-range-spec = tie.close (tie.spec sub-between between-requires returns)

@@ -1,10 +1,10 @@
 use borrow.Author.Needs.{needs}
 use mathlib.Core.Path.{sym, ap, _∙_}
-use Rattle.grid.specs.Grid.{gridOf}
-use Rattle.grid.specs.Check.{outcome, nodesVerdict}
+use Rattle.figures.proofs.Laws.{refused-first, passed-first}
+use Rattle.grid.specs.Check.{outcome, nodesVerdict, verdict}
 use Rattle.grid.specs.declared.Shape.{Shape}
 use Rattle.grid.proofs.RuleLaws.{extent}
-use Rattle.grid.proofs.Passing.{laid, layout-refused, layout-passes}
+use Rattle.grid.proofs.Passing.{laid}
 use Rattle.grid.proofs.check.Statement.{statement}
 use Rattle.grid.proofs.check.Tie as tie
 
@@ -27,17 +27,19 @@ check-nodes-requires c κs =
     rw (c .shape .ensures) (extent (laid _ e .header))
 
 returns : tie.Need-returns
+unfolding verdict
 returns c =
-    layout-refused _ (ap outcome (sym (c .before .why .given .1)) ∙ c .before .before .before .check-layout .ensures)
+    refused-first _ (ap outcome (sym (c .before .why .given .1)) ∙ c .before .before .before .check-layout .ensures)
 
 returns-2 : tie.Need-returns-2
+unfolding verdict
 returns-2 c =
     let z = c .before in
     let l = z .before .before .before in
     let a = l .before .args in
     c .check-nodes .ensures
     ∙ ap (λ (s : Shape). nodesVerdict s (a .lat .now) (a .lon .now)) (z .shape .ensures)
-    ∙ layout-passes (gridOf (a .h) (a .lat .now) (a .lon .now)) (ap outcome (sym (z .before .enum-told .given .1)) ∙ l .check-layout .ensures)
+    ∙ passed-first _ (ap outcome (sym (z .before .enum-told .given .1)) ∙ l .check-layout .ensures)
 
 pub check-spec : {M : Type 1} → statement M
 check-spec =

@@ -2,7 +2,8 @@ use borrow.Author.Needs.{needs}
 use mathlib.Core.Path.{sym, ap, _∙_}
 use Rattle.grid.specs.Grid.{gridOf}
 use Rattle.grid.specs.Check.{outcome}
-use Rattle.grid_text.proofs.Answers.{checks-refuse, checks-pass, ready}
+use Rattle.grid.proofs.Passing.{good, laid}
+use Rattle.grid_text.proofs.Answers.{checks-refuse, checks-pass}
 use Rattle.grid_text.proofs.write.Statement.{statement}
 use Rattle.grid_text.proofs.write.Tie as tie
 
@@ -16,7 +17,7 @@ enum-told : tie.Need-enum-told
 enum-told c = search needs
 
 write-checked-requires : tie.Need-write-checked-requires
-write-checked-requires c κs = ready _ (sym (c .before .before .before .check .ensures) ∙ ap outcome (c .before .enum-told .given .1))
+write-checked-requires c κs = let e = sym (c .before .before .before .check .ensures) ∙ ap outcome (c .before .enum-told .given .1) in laid _ (good _ e .laid-out) .unbroken
 
 returns : tie.Need-returns
 returns c =
@@ -32,7 +33,7 @@ returns-2 c =
     let w = c .before .before in
     let a = w .before .before .before .before .before .before .args in
     let e = sym (w .before .before .before .before .check .ensures) ∙ ap outcome (w .before .before .enum-told .given .1) in
-    (checks-pass (gridOf (a .h) (a .lat .now) (a .lon .now)) (a .room .now) e (w .write-checked .ensures .0), w .write-checked .ensures .1)
+    checks-pass (gridOf (a .h) (a .lat .now) (a .lon .now)) (a .room .now) e (w .write-checked .ensures)
 
 pub write-spec : {M : Type 1} → statement M
 write-spec =

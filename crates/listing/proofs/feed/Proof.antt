@@ -2,10 +2,10 @@ use borrow.Author.Needs.{needs}
 use native.Mathlib.Omega.{arith}
 use Prim.Native.Nat.{_^_, _<_}
 use mathlib.Core.Path.{refl}
-use mathlib.Core.Logic.{inl, inr, ⊎-elim}
+use mathlib.Core.Logic.{⊎-elim}
 use lib.ListN.{length}
-use Rattle.lines.specs.Writing.{roomAfter}
-use Rattle.listing.proofs.Rooms.{too-short, fits}
+use Rattle.writing.specs.Writing.{roomAfter}
+use Rattle.writing.proofs.Laws.{wrote-short, wrote-fits, wrote-room}
 use Rattle.listing.proofs.feed.Statement.{statement}
 use Rattle.listing.proofs.feed.Tie as tie
 
@@ -20,10 +20,10 @@ unfolding roomAfter
 returns c =
     let s = c .before .before .before .before in
     let k = c .before .lacking .ensures .short (c .if1 .taken) in
-    (too-short _ _ (lent s) (k .1) (omega (arith, lent s, k)), (refl, refl))
+    (wrote-short _ _ (k .1) (k .0) .answer, (refl, refl))
 
 put-replies-requires : tie.Need-put-replies-requires
-put-replies-requires c κs = ⊎-elim (λ h. inl (inr h)) inr (c .before .before .lacking .ensures .enough (c .before .if1 .left))
+put-replies-requires c κs = search needs
 
 same-length : tie.Need-same-length
 same-length c = search needs
@@ -33,8 +33,8 @@ returns-2 c =
     let p = c .before .before .before in
     let l = p .before .before in
     let r = p .put-replies .ensures in
-    let f = fits _ _ (lent (l .before .before .before .before)) (r .put) (⊎-elim (λ h. h) (λ h. omega (arith, r .small)) (l .before .lacking .ensures .enough (l .if1 .left))) in
-    (f .0, (r .next, f .1))
+    let f = wrote-fits (r .put) (⊎-elim (λ h. h) (λ h. omega (arith, r .small)) (l .before .lacking .ensures .enough (l .if1 .left))) (lent (l .before .before .before .before)) in
+    (f .answer, (r .next, wrote-room f))
 
 pub feed-spec : {M : Type 1} → statement M
 feed-spec =

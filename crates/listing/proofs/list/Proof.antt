@@ -2,7 +2,8 @@ use borrow.Author.Needs.{needs}
 use mathlib.Core.Path.{refl, sym, ap, _∙_}
 use Rattle.grid.specs.Grid.{gridOf}
 use Rattle.grid.specs.Check.{outcome as checked}
-use Rattle.lines.specs.Writing.{roomAfter}
+use Rattle.writing.specs.Writing.{roomAfter}
+use Rattle.writing.proofs.Laws.{wrote-room}
 use Rattle.listing.specs.Listing.{listing}
 use Rattle.listing.proofs.Whole.{once-afresh}
 use Rattle.listing.proofs.list.Statement.{statement}
@@ -35,7 +36,7 @@ returns-2 c =
     let a = k .before .before .before .before .before .args in
     let p = sym (k .before .before .check .ensures) ∙ ap checked (k .enum-told .given .1) in
     let e = rw (once-afresh (gridOf (a .h) (a .lat .now) (a .lon .now)) p) at (w .list-checked .ensures) in
-    (rw p (e .0), e .1)
+    (rw p (e .answer), wrote-room e)
 
 pub list-spec : {M : Type 1} → statement M
 list-spec =

@@ -1,10 +1,8 @@
 use borrow.Author.Needs.{needs}
-use native.Mathlib.Omega.{arith}
 use Prim.Native.Nat.{_^_, _<_}
-use mathlib.Core.Path.{refl}
-use mathlib.Core.Logic.{inl}
+use native.Mathlib.Omega.{arith}
 use lib.ListN.{length}
-use Rattle.listing.proofs.Rooms.{counted-short, counted-enough, counted-fits}
+use Rattle.writing.proofs.Laws.{counted-short, counted-fits}
 use Rattle.listing.proofs.list_checked.Statement.{statement}
 use Rattle.listing.proofs.list_checked.Tie as tie
 
@@ -21,16 +19,18 @@ part-put-list-end : tie.Need-part-put-list-end
 part-put-list-end c = search needs
 
 put-list-requires : tie.Need-put-list-requires
-put-list-requires c κs = inl refl
+put-list-requires c κs = search needs
 
 same-length : tie.Need-same-length
 same-length c = search needs
 
 returns : tie.Need-returns
-returns c = let p = c .before .before .before in counted-short _ _ (lent (p .before .before .before .before)) (p .put-list .ensures) (c .if1 .taken)
+returns c =
+    let p = c .before .before .before in
+    counted-short _ _ (lent (p .before .before .before .before)) (p .put-list .ensures) (c .if1 .taken)
 
 put-list-requires-2 : tie.Need-put-list-requires-2
-put-list-requires-2 c κs = let p = c .before .before .before .before in counted-enough _ _ (lent (p .before .before .before .before)) (p .put-list .ensures) (c .before .if1 .left)
+put-list-requires-2 c κs = search needs
 
 same-length-2 : tie.Need-same-length-2
 same-length-2 c = search needs
@@ -38,8 +38,9 @@ same-length-2 c = search needs
 returns-2 : tie.Need-returns-2
 returns-2 c =
     let q = c .before .before in
-    let p = q .before .before .before .before .before in
-    counted-fits _ _ (lent (p .before .before .before .before)) (p .put-list .ensures) (q .before .before .if1 .left) (q .put-list2 .ensures)
+    let e = q .before .before in
+    let p = e .before .before .before in
+    counted-fits _ _ (lent (p .before .before .before .before)) (p .put-list .ensures) (e .if1 .left) (q .put-list2 .ensures)
 
 pub list-checked-spec : {M : Type 1} → statement M
 list-checked-spec =

@@ -1,5 +1,7 @@
 use Rattle.grid.specs.Grid.{gridOf}
-use Rattle.round_trip.proofs.Laws.{there-refused, there-back}
+use Rattle.figures.proofs.Laws.{refused-first}
+use Rattle.round_trip.specs.RoundTrip.{comesBack}
+use Rattle.round_trip.proofs.Laws.{there-back}
 use Rattle.convert.specs.Convert.{outcome83}
 use mathlib.Core.Path.{sym, ap, _∙_}
 use borrow.Author.Needs.{needs}
@@ -19,7 +21,8 @@ to27-requires : tie.Need-to27-requires
 to27-requires c κs = search needs
 
 returns : tie.Need-returns
-returns c = let a = c .before .before .before .before .args in there-refused (gridOf (a .h) (a .lat .now) (a .lon .now)) (a .p) (ap outcome83 (sym (c .before .why .given .1)) ∙ c .before .before .before .to83 .ensures)
+unfolding comesBack
+returns c = refused-first _ (ap outcome83 (sym (c .before .why .given .1)) ∙ c .before .before .before .to83 .ensures)
 
 returns-2 : tie.Need-returns-2
 returns-2 c = let a = c .before .before .before .before .before .args in c .to27 .ensures ∙ there-back (gridOf (a .h) (a .lat .now) (a .lon .now)) (a .p) (ap outcome83 (sym (c .before .before .f .given .1)) ∙ c .before .before .before .before .to83 .ensures)

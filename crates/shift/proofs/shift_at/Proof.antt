@@ -1,11 +1,10 @@
 use mathlib.Core.Path.{sym, ap, _∙_}
-use Rattle.grid.specs.Grid.{gridOf}
 use Rattle.grid.specs.Check.{outcome as layoutOutcome}
 use Rattle.grid.specs.declared.Shape.{Shape}
 use Rattle.grid.proofs.RuleLaws.{extent}
 use Rattle.grid.proofs.Passing.{laid}
-use Rattle.shift.specs.Shift.{shiftOn}
-use Rattle.shift.proofs.Cases.{layout-refused, layout-passes}
+use Rattle.figures.proofs.Laws.{refused-first, passed-first}
+use Rattle.shift.specs.Shift.{shiftOn, shiftAt}
 use borrow.Author.Needs.{needs}
 use Rattle.shift.proofs.shift_at.Statement.{statement}
 use Rattle.shift.proofs.shift_at.Tie as tie
@@ -30,16 +29,18 @@ shift-on-requires c κs =
     rw (c .shape .ensures) (extent (d .header), (d .room-lat, d .room-lon))
 
 returns : tie.Need-returns
-returns c = layout-refused _ _ _ (ap layoutOutcome (sym (c .before .why .given .1)) ∙ c .before .before .before .check-layout .ensures)
+unfolding shiftAt
+returns c = refused-first _ (ap layoutOutcome (sym (c .before .why .given .1)) ∙ c .before .before .before .check-layout .ensures)
 
 returns-2 : tie.Need-returns-2
+unfolding shiftAt
 returns-2 c =
     let z = c .before in
     let l = z .before .before .before in
     let a = l .before .args in
     c .shift-on .ensures
     ∙ ap (λ (s : Shape). shiftOn s (a .lat .now) (a .lon .now) (a .x) (a .y)) (z .shape .ensures)
-    ∙ layout-passes (gridOf (a .h) (a .lat .now) (a .lon .now)) (a .x) (a .y) (ap layoutOutcome (sym (z .before .enum-told .given .1)) ∙ l .check-layout .ensures)
+    ∙ passed-first _ (ap layoutOutcome (sym (z .before .enum-told .given .1)) ∙ l .check-layout .ensures)
 
 pub shift-at-spec : {M : Type 1} → statement M
 shift-at-spec =

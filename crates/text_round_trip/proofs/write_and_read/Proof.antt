@@ -3,7 +3,7 @@ use Prim.Native.Nat.{ℕ}
 use mathlib.Core.Path.{_≡_, sym, ap, _∙_}
 use lib.ListN.{length, replicate, length-replicate}
 use lib.Seq.{length-take-le}
-use Rattle.lines.specs.Writing.{outcome}
+use Rattle.writing.specs.Writing.{writtenOutcome}
 use Rattle.text_round_trip.proofs.AgainLaws.{lent, grid-refused, grid-again}
 use Rattle.text_round_trip.proofs.write_and_read.Statement.{statement}
 use Rattle.text_round_trip.proofs.write_and_read.Tie as tie
@@ -25,7 +25,7 @@ enum-known-n : tie.Need-enum-known-n
 enum-known-n c = search needs
 
 array-share-prefix-text : tie.Need-array-share-prefix-text
-array-share-prefix-text c = lent _ _ zeros (ap outcome (c .before .n .given .1)) (c .before .before .before .before .write .ensures .0) (c .before .before .before .before .write .ensures .1)
+array-share-prefix-text c = lent _ _ zeros (ap writtenOutcome (c .before .n .given .1)) (c .before .before .before .before .write .ensures .0) (c .before .before .before .before .write .ensures .1)
 
 slice-aggregate-read : tie.Need-slice-aggregate-read
 slice-aggregate-read c = sym (length-take-le _ _ (array-share-prefix-text (c .before)))
@@ -34,7 +34,7 @@ read-requires : tie.Need-read-requires
 read-requires c κs = search needs
 
 returns : tie.Need-returns
-returns c = grid-refused _ _ zeros _ _ (sym (ap outcome (c .before .why .given .1)) ∙ c .before .before .before .before .write .ensures .0)
+returns c = grid-refused _ _ zeros _ _ (sym (ap writtenOutcome (c .before .why .given .1)) ∙ c .before .before .before .before .write .ensures .0)
 
 same-length : tie.Need-same-length
 same-length c = search needs
@@ -43,7 +43,7 @@ same-length-2 : tie.Need-same-length-2
 same-length-2 c = search needs
 
 returns-2 : tie.Need-returns-2
-returns-2 c = let w = c .before .before .before .before .before .before .before .before .before .before in grid-again _ _ zeros (ap outcome (c .before .before .before .before .before .before .before .n .given .1)) (w .write .ensures .0) (w .write .ensures .1) _ _ (c .before .before .read .ensures .0) (c .before .before .read .ensures .1 .0) (c .before .before .read .ensures .1 .1)
+returns-2 c = let w = c .before .before .before .before .before .before .before .before .before .before in grid-again _ _ zeros (ap writtenOutcome (c .before .before .before .before .before .before .before .n .given .1)) (w .write .ensures .0) (w .write .ensures .1) _ _ (c .before .before .read .ensures .0) (c .before .before .read .ensures .1 .0) (c .before .before .read .ensures .1 .1)
 
 pub write-and-read-spec : {M : Type 1} → statement M
 write-and-read-spec =

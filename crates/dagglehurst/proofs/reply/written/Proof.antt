@@ -1,6 +1,6 @@
 use borrow.Author.Needs.{needs}
 use mathlib.Core.Path.{sym, ap, _∙_}
-use Rattle.lines.specs.Writing.{outcome}
+use Rattle.writing.specs.Writing.{writtenOutcome}
 use Rattle.dagglehurst.specs.Reply.{reply}
 use Rattle.dagglehurst.proofs.reply.written.Statement.{statement}
 use Rattle.dagglehurst.proofs.reply.written.Tie as tie
@@ -18,10 +18,10 @@ refused-requires : tie.Need-refused-requires
 refused-requires c κs = search needs
 
 returns : tie.Need-returns
-returns c = c .answered .ensures ∙ ap (λ w. reply (outcome w)) (sym (c .before .before .w .given .1))
+returns c = c .answered .ensures ∙ ap (λ w. reply (writtenOutcome w)) (sym (c .before .before .w .given .1))
 
 returns-2 : tie.Need-returns-2
-returns-2 c = c .refused .ensures ∙ ap (λ w. reply (outcome w)) (sym (c .before .before .w2 .given .1))
+returns-2 c = c .refused .ensures ∙ ap (λ w. reply (writtenOutcome w)) (sym (c .before .before .w2 .given .1))
 
 pub written-spec : {M : Type 1} → statement M
 written-spec =

@@ -18,7 +18,7 @@ part-none-end : tie.Need-part-none-end
 part-none-end c = search needs
 
 put-replies-requires : tie.Need-put-replies-requires
-put-replies-requires c κs = inl (inl refl)
+put-replies-requires c κs = search needs
 
 returns-2 : tie.Need-returns-2
 returns-2 c = let p = c .before .before .before .put-replies .ensures .put in record { enough = λ z. absurd (omega arith); short = λ z. (omega (arith, p .counted, c .if2 .taken), p .counted) }

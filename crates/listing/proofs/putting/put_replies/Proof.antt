@@ -4,10 +4,10 @@ use Prim.Native.Nat.{_-_, _^_, _<_}
 use mathlib.Core.Path.{_≡_}
 use mathlib.Core.List.{[]}
 use lib.ListN.{length}
+use Rattle.laws.specs.Logic.{less-left}
 use Rattle.grid.specs.Grid.{gridOf}
 use Rattle.requests.specs.Replies.{checkedOnce}
 use Rattle.listing.specs.Pieces.{fedList}
-use Rattle.listing.proofs.Rooms.{put-length}
 use Rattle.listing.proofs.Runs.{FedSoFar, onward, inside, fed-nothing, fed-none, fed-more, fed-all}
 use Rattle.listing.proofs.putting.put_replies.Statement.{statement}
 use Rattle.listing.proofs.putting.put_replies.Tie as tie
@@ -22,7 +22,7 @@ tidied : (c : tie.After-hold Inv-loop μ-loop) → let a = c .before .before .be
 tidied c = let a = c .before .before .before .before .args in fed-nothing (checkedOnce (gridOf (a .h) (a .lat .now) (a .lon .now))) (a .list) (c .hold .ensures)
 
 -- the lengths of slices
-lengths : (c : tie.Start Inv-loop μ-loop) → (length (c .args .piece .now) < 2 ^ 64) × (length (c .args .room .now) < 2 ^ 64)
+lengths : (c : tie.Start Inv-loop μ-loop) → (length (c .args .piece .now) < 2 ^ 64) × (length (c .args .room .now) < 2 ^ 63)
 lengths c = (omega arith, omega arith)
 
 sub-hold : tie.Need-sub-hold Inv-loop μ-loop
@@ -41,7 +41,7 @@ loop-holds : tie.Need-loop-holds Inv-loop μ-loop
 loop-holds c =
     let s = c .before .before .before .before in
     let a = s .args in
-    fed-none (checkedOnce (gridOf (a .h) (a .lat .now) (a .lon .now))) (a .list) (tidied c) (a .piece .now) (a .room .now) (s .pre)
+    fed-none (checkedOnce (gridOf (a .h) (a .lat .now) (a .lon .now))) (a .list) (tidied c) (a .piece .now) (a .room .now)
 
 least-requires : tie.Need-least-requires Inv-loop μ-loop
 least-requires c κs = search needs
@@ -73,14 +73,15 @@ add-taken c =
     let s = p .before .before .before .before .before .before .before .before .before .before in
     record { fits = omega (arith, lengths s .0, inside (s .args .piece .now) (p .before .before .before .before .loop-test .taken) (p .put-line .ensures)) }
 
-plus-requires : tie.Need-plus-requires Inv-loop μ-loop
-plus-requires c κs = search needs
+saturating-add-requires : tie.Need-saturating-add-requires Inv-loop μ-loop
+saturating-add-requires c κs = search needs
 
 loop-less : tie.Need-loop-less Inv-loop μ-loop
 loop-less c =
     let p = c .before .before .before .before .before in
-    let l = p .before .before .before .before .before in
-    omega (arith, onward (l .before .before .before .before .before .args .piece .now) (p .before .before .before .before .loop-test .taken) (p .put-line .ensures))
+    let i = p .before .before .before .before in
+    let a = i .before .before .before .before .before .before .args in
+    less-left (length (a .piece .now)) (i .before .loop .taken) (p .put-line .result .taken) (i .loop-test .taken) (onward (a .piece .now) (i .loop-test .taken) (p .put-line .ensures))
 
 loop-again : tie.Need-loop-again Inv-loop μ-loop
 loop-again c =
@@ -89,10 +90,10 @@ loop-again c =
     let s = l .before .before .before .before .before in
     let a = s .args in
     fed-more (checkedOnce (gridOf (a .h) (a .lat .now) (a .lon .now))) (l .before .hold .result) (a .piece .now) (l .loop .inv) (lengths s .1)
-    (p .before .before .before .before .loop-test .taken) (p .before .before .before .least .ensures) (p .put-line .ensures) (c .plus .ensures)
+    (p .before .before .before .before .loop-test .taken) (p .before .before .before .least .ensures) (p .put-line .ensures) (c .saturating-add .ensures)
 
 same-length : tie.Need-same-length Inv-loop μ-loop
-same-length c = put-length (c .before .loop .inv .put)
+same-length c = c .before .loop .inv .put .kept
 
 returns : tie.Need-returns Inv-loop μ-loop
 returns c =
@@ -120,7 +121,7 @@ put-replies-spec =
     part-put-line-end-2
     put-line-requires
     add-taken
-    plus-requires
+    saturating-add-requires
     loop-less
     loop-again
     same-length
