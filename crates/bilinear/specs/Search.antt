@@ -7,6 +7,10 @@ use native.Mathlib.Numerals.{add-one}
 use Rattle.bilinear.specs.Axis.{gap}
 use Rattle.bilinear.specs.Answers.{Lipschitz, HasAnswer}
 
+-- shifts are raised by the largest size of one, so that a raised shift is a natural number, at most twice that
+abbrev pub bias : ℕ
+bias = 6_000_000
+
 -- the way back along one axis: where the shift is about `R`, the answer `X` is of about this point
 unfoldable pub unshift : (W X R : ℕ) → ℕ
 unshift W X R = min ((X + 50 - R) / 100) W
@@ -25,7 +29,7 @@ bound zero = 60_000
 bound (suc k) = (25 * bound k + 102) / 200
 
 unfoldable pub iterate : (W H : ℕ) (R Q : ℕ → ℕ → ℕ) (X Y : ℕ) → ℕ → ℕ × ℕ
-iterate W H R Q X Y zero = (unshift W X 6_000_000, unshift H Y 6_000_000)
+iterate W H R Q X Y zero = (unshift W X bias, unshift H Y bias)
 iterate W H R Q X Y (suc k) = let p = iterate W H R Q X Y k in (unshift W X (R (p .0) (p .1)), unshift H Y (Q (p .0) (p .1)))
 
 -- a point on the grid that is at most `d` away along each axis
@@ -50,15 +54,15 @@ module _ {W H : ℕ} {R Q : ℕ → ℕ → ℕ} (r : Lipschitz W H R) (q : Lips
           by-y = omega (arith, unshift-near H y Y (Q x y) (Q x' y') k (p .in-y) (p .is-y) (omega (arith, v, c)) (omega (arith, v, c)));
         }
 
-    module _ (fits : (R x y ≤ 12_000_000) × (Q x y ≤ 12_000_000)) where
+    module _ (fits : (R x y ≤ 2 * bias) × (Q x y ≤ 2 * bias)) where
       pub closing : (k : ℕ) → Close W H x y (bound k) (iterate W H R Q X Y k .0) (iterate W H R Q X Y k .1)
       unfolding iterate bound
       closing zero =
           record {
-            on-x = unshift-on W X 6_000_000;
-            on-y = unshift-on H Y 6_000_000;
-            by-x = omega (arith, unshift-near W x X (R x y) 6_000_000 6_000_000 (p .in-x) (p .is-x) (omega arith) (omega arith));
-            by-y = omega (arith, unshift-near H y Y (Q x y) 6_000_000 6_000_000 (p .in-y) (p .is-y) (omega arith) (omega arith));
+            on-x = unshift-on W X bias;
+            on-y = unshift-on H Y bias;
+            by-x = omega (arith, unshift-near W x X (R x y) bias bias (p .in-x) (p .is-x) (omega arith) (omega arith));
+            by-y = omega (arith, unshift-near H y Y (Q x y) bias bias (p .in-y) (p .is-y) (omega arith) (omega arith));
           }
       closing (suc k) = closer (closing k)
 
@@ -73,7 +77,7 @@ pub record Reached (W H : ℕ) (R Q : ℕ → ℕ → ℕ) (X Y k x y : ℕ) : T
   pub at-x : x ≡ iterate W H R Q X Y k .0
   pub at-y : y ≡ iterate W H R Q X Y k .1
 
-pub reach : {W H X Y x y : ℕ} {R Q : ℕ → ℕ → ℕ} → x ≡ unshift W X 6_000_000 → y ≡ unshift H Y 6_000_000 → Reached W H R Q X Y 0 x y
+pub reach : {W H X Y x y : ℕ} {R Q : ℕ → ℕ → ℕ} → x ≡ unshift W X bias → y ≡ unshift H Y bias → Reached W H R Q X Y 0 x y
 unfolding iterate
 reach e f = record { at-x = e; at-y = f }
 
@@ -110,13 +114,13 @@ reach-end {W} {H} {X} {Y} {k} {R = R} {Q = Q} n l r r' ex ey =
 
 pub on-grid : (W H : ℕ) (R Q : ℕ → ℕ → ℕ) (X Y k : ℕ) → (iterate W H R Q X Y k .0 ≤ W) × (iterate W H R Q X Y k .1 ≤ H)
 unfolding iterate
-on-grid W H R Q X Y zero = (unshift-on W X 6_000_000, unshift-on H Y 6_000_000)
+on-grid W H R Q X Y zero = (unshift-on W X bias, unshift-on H Y bias)
 on-grid W H R Q X Y (suc k) = (unshift-on W X _, unshift-on H Y _)
 
 -- a shift that changes slowly and is in its range
 pub record Regular (W H : ℕ) (R : ℕ → ℕ → ℕ) : Type 0 where
   pub slow : Lipschitz W H R
-  pub fits : (x y : ℕ) → x ≤ W → y ≤ H → R x y ≤ 12_000_000
+  pub fits : (x y : ℕ) → x ≤ W → y ≤ H → R x y ≤ 2 * bias
 
 -- the same of one that is equal to it on the grid
 pub regular-same : {W H : ℕ} {R R' : ℕ → ℕ → ℕ} → Regular W H R → ((x y : ℕ) → x ≤ W → y ≤ H → R' x y ≡ R x y) → Regular W H R'
