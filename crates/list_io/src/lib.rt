@@ -6,14 +6,14 @@ mod sheet;
 
 use grid_reader::GridRead;
 
-// The list of the requests on standard input, over the grid in the current folder's sheet.txt.
-pub fn run() {
+// The list of the requests that the descriptor `requests` reads, over the grid in the file that `sheet` names.
+pub fn run(sheet: &[u8], requests: i32) {
     let mut lat = [0i64; 2048];
     let mut lon = [0i64; 2048];
-    match sheet::read(&mut lat, &mut lon) {
+    match sheet::read(sheet, &mut lat, &mut lon) {
         GridRead::Refused(why) => {
             output::refuse(why);
         }
-        GridRead::Grid(h) => serve::serve(h, &lat, &lon),
+        GridRead::Grid(h) => serve::serve(requests, h, &lat, &lon),
     }
 }

@@ -1,7 +1,6 @@
-// The sitting: request lines from standard input, and a reply to each as soon as it has ended.
+// The sitting: request lines from a descriptor, and a reply to each as soon as it has ended.
 use super::output::put;
 use grid::Header;
-use libc::STDIN_FILENO;
 use listing::Listing;
 
 // What follows a turn.
@@ -20,21 +19,21 @@ struct Turned {
 }
 
 // The room has 47 bytes, those of the longest reply, for each byte of a block: the replies to a block always fit.
-pub(crate) fn serve<'a>(h: Header, lat: &'a [i64], lon: &'a [i64]) {
+pub(crate) fn serve<'a>(requests: i32, h: Header, lat: &'a [i64], lon: &'a [i64]) {
     let mut room = [0u8; 385_024];
     let begun = listing::begin(h, lat, lon, &mut room);
     if put(begun, &room) {
-        take_turns(h, lat, lon, &mut room);
+        take_turns(requests, h, lat, lon, &mut room);
     }
 }
 
 // A proved loop has to end, and nothing says that the input does. So the loop counts its turns down, from a number that no run
 // uses up.
-fn take_turns<'a>(h: Header, lat: &'a [i64], lon: &'a [i64], room: &mut [u8]) {
+fn take_turns<'a>(requests: i32, h: Header, lat: &'a [i64], lon: &'a [i64], room: &mut [u8]) {
     let mut list = Listing::new();
     let mut turns = u64::MAX;
     while turns > 0 {
-        let turned = take_turn(list, h, lat, lon, room);
+        let turned = take_turn(list, requests, h, lat, lon, room);
         list = turned.list;
         let next = turned.next;
         match next {
@@ -56,13 +55,14 @@ fn take_turns<'a>(h: Header, lat: &'a [i64], lon: &'a [i64], room: &mut [u8]) {
 // One read, and the replies to the lines that end in it.
 fn take_turn<'a>(
     list: Listing,
+    requests: i32,
     h: Header,
     lat: &'a [i64],
     lon: &'a [i64],
     room: &mut [u8],
 ) -> Turned {
     let mut block = [0u8; 8192];
-    let got = libc::read(STDIN_FILENO, &mut block);
+    let got = libc::read(requests, &mut block);
     if got < 0 {
         os::fail(b"standard input");
         return Turned {

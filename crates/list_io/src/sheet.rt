@@ -11,9 +11,9 @@ enum Loaded {
     Failed,
 }
 
-// Reads the grid from sheet.txt.
-pub(crate) fn read(lat: &mut [i64], lon: &mut [i64]) -> GridRead {
-    let fd = os::open_read(b"sheet.txt");
+// Reads the grid from the file of this name.
+pub(crate) fn read(name: &[u8], lat: &mut [i64], lon: &mut [i64]) -> GridRead {
+    let fd = os::open_read(name);
     if fd < 0 {
         return GridRead::Refused(Refusal::File(0));
     }

@@ -1,47 +1,44 @@
-// The points to try of document 01 and the misreadings that it names, run through the checks and the conversions. Each case is
-// compared here with what the document says, and prints one line; the last line has how many cases there are and how many are wrong.
-mod answers;
-mod edges;
-mod far;
-mod grids;
-mod misreadings;
-mod nodes;
-mod once;
-mod order;
-mod rules;
-mod starred;
-mod steepness;
-mod tally;
-mod uneven;
+// The points to try of document 01 and the misreadings that it names, run through the checks and the conversions. The cases stand
+// in a script, the file `stdin`, one to a line, and each is compared here with what the script says of it. A line is printed for
+// each group of cases, and for each case that comes out otherwise.
+//
+//     group NAME            the cases that follow
+//     header S,W,DLAT,DLON,ROWS,COLS
+//     lat N,N,..            the latitude shifts of the grid's nodes
+//     lon N,N,..            the longitude shifts; `[N,*TIMES]` is a number that comes so many times
+//     check ANSWER          the grid is checked, and passes (`ok`) or is refused (`no NUMBER,PLACE`)
+//     to83 LAT,LON ANSWER   the point is converted, and answered (`ok LAT,LON`) or refused (`no NUMBER,PLACE`)
+//     to27 LAT,LON ANSWER   the same for the figures, and a point for an answer
+//     both LAT,LON ANSWER   as `to83`, and the answer taken back is the point
+//     forward, inverse      as `to83` and `to27`, of a grid that is taken as checked
+//
+// Empty lines and lines that start with `#` are passed over.
+mod calls;
+mod case;
+mod lines;
+mod numbers;
 
-use tally::Tally;
+use lines::Run;
+use script::groups::Line;
+use script::numbers::shifts;
+use script::text::find;
 
 fn main() {
-    let t = Tally::new();
-    let t = starred::sheet_p(t);
-    let t = starred::sheet_q(t);
-    let t = rules::corner(t);
-    let t = rules::sizes(t);
-    let t = rules::first_broken(t);
-    let t = nodes::range(t);
-    let t = nodes::lowest(t);
-    let t = nodes::room(t);
-    let t = steepness::limits(t);
-    let t = steepness::lowest(t);
-    let t = order::refusals(t);
-    let t = once::checked(t);
-    let t = once::damaged(t);
-    let t = misreadings::rows_from_the_north(t);
-    let t = misreadings::printed_sign(t);
-    let t = misreadings::shift_at_the_figure(t);
-    let t = misreadings::thousandths(t);
-    let t = edges::of_p(t);
-    let t = edges::of_nine(t);
-    let t = edges::past_nine(t);
-    let t = far::extremes(t);
-    let t = far::reach(t);
-    let t = far::steepest(t);
-    let t = uneven::nodes(t);
-    let t = uneven::points(t);
-    t.print_total();
+    let mut space = io::large_buffer();
+    let mut lat = shifts();
+    let mut lon = shifts();
+    let n = io::read_full(0, &mut space);
+    run(&space[..n], &mut lat, &mut lon);
+}
+
+// Runs a script, with room for the shifts of a grid.
+fn run(script: &[u8], lat: &mut [i64], lon: &mut [i64]) {
+    let mut run = Run::new();
+    let mut from: usize = 0;
+    while from < script.len() {
+        let to = find(script, from, b'\n');
+        run = lines::line(run, script, Line { from, to }, lat, lon);
+        from = to + 1;
+    }
+    run.finish(script);
 }

@@ -1,23 +1,22 @@
 // The lines of a script.
-use super::bytes::after;
-use super::bytes::byte_at;
-use super::bytes::find;
-use super::bytes::piece;
-use super::numbers::unsigned;
+use super::again;
+use super::edits;
+use super::edits::Edited;
 use super::reading;
-use super::reading::Came;
-use super::script;
-use super::script::Edited;
-use super::tally::Tally;
-use super::writing;
+use script::expansion::expand;
+use script::groups::Groups;
+use script::groups::Line;
+use script::numbers::unsigned_pair;
+use script::outcome::Outcome;
+use script::text::after;
+use script::text::byte_at;
+use script::text::find;
+use script::text::piece;
+use script::text::rest;
 
 // Where a run of a script stands.
 pub(crate) struct Run {
-    // The places of the group's line in the script.
-    from: usize,
-    to: usize,
-    group: Tally,
-    all: Tally,
+    groups: Groups,
     // The length of the sheet's text, and those of the slices that are lent.
     sheet: usize,
     lat: usize,
@@ -27,21 +26,11 @@ pub(crate) struct Run {
 impl Run {
     pub(crate) fn new() -> Run {
         Run {
-            from: 0,
-            to: 0,
-            group: Tally::new(),
-            all: Tally::new(),
+            groups: Groups::new(),
             sheet: 0,
             lat: 0,
             lon: 0,
         }
-    }
-
-    fn with_group(mut self, from: usize, to: usize) -> Run {
-        self.from = from;
-        self.to = to;
-        self.group = Tally::new();
-        self
     }
 
     fn with_sheet(mut self, length: usize) -> Run {
@@ -55,49 +44,33 @@ impl Run {
         self
     }
 
-    fn counted(mut self, right: bool) -> Run {
-        let group = self.group;
-        let all = self.all;
-        self.group = group.counted(right);
-        self.all = all.counted(right);
+    fn begin(mut self, script: &[u8], line: Line) -> Run {
+        let groups = self.groups;
+        self.groups = groups.begin(script, line);
         self
     }
 
-    fn print_group(self, script: &[u8]) {
-        let line = piece(script, self.from, self.to);
-        if 0 < line.len() {
-            let group = self.group;
-            group.print(piece(line, 6, line.len()));
-        }
+    fn counted(mut self, right: bool) -> Run {
+        let groups = self.groups;
+        self.groups = groups.counted(right);
+        self
     }
 
     pub(crate) fn finish(self, script: &[u8]) {
-        self.print_group(script);
-        let all = self.all;
-        all.print(b"all");
+        let groups = self.groups;
+        groups.finish(script);
     }
 }
 
-// One line, which stands between two places of the script. Its first byte says what it is.
-pub(crate) fn line(
-    run: Run,
-    script: &[u8],
-    from: usize,
-    to: usize,
-    sheet: &mut [u8],
-    text: &mut [u8],
-) -> Run {
-    let line = piece(script, from, to);
+// One line. Its first byte says what it is.
+pub(crate) fn line(run: Run, script: &[u8], place: Line, sheet: &mut [u8], text: &mut [u8]) -> Run {
+    let line = piece(script, place.from, place.to);
     match byte_at(line, 0) {
-        b'g' => {
-            run.print_group(script);
-            run.with_group(from, to)
-        }
-        b's' => run.with_sheet(script::expand(piece(line, 6, line.len()), sheet, 0)),
+        b'g' => run.begin(script, place),
+        b's' => run.with_sheet(expand(rest(line, 6), sheet, 0)),
         b'r' => {
-            let lat = unsigned(line, 5);
-            let lon = unsigned(line, after(line, lat.next));
-            run.with_room(lat.value, lon.value)
+            let room = unsigned_pair(line, 5);
+            run.with_room(room.first, room.second)
         }
         b'#' => run,
         0 => run,
@@ -106,50 +79,26 @@ pub(crate) fn line(
 }
 
 fn case<'a>(run: Run, line: &'a [u8], sheet: &'a [u8], text: &mut [u8]) -> bool {
-    let words = piece(line, 3, line.len());
+    let words = rest(line, 3);
     let blank = find(words, 0, b' ');
-    let edit = piece(words, after(words, blank), words.len());
-    match script::edit(edit, sheet, text) {
-        Edited::Missing => wrong(line, Came::unread()),
+    let edit = rest(words, after(words, blank));
+    match edits::edit(edit, sheet, text) {
+        Edited::Missing => Outcome::answered(false).agrees(line, 0, 0),
         Edited::Text(n) => judge(run, line, piece(words, 0, blank), piece(text, 0, n)),
     }
 }
 
 // Reads a text. `want` is how it should be refused, or what it should hold.
 fn judge<'a>(run: Run, line: &'a [u8], want: &'a [u8], text: &'a [u8]) -> bool {
-    let mut space = [0u8; 49_152];
-    let n = script::expand(want, &mut space, 0);
-    let came = reading::read(text, piece(&space, 0, n), run.lat, run.lon);
+    let mut space = io::large_buffer();
+    let n = expand(want, &mut space, 0);
+    let mut came = reading::read(text, piece(&space, 0, n), run.lat, run.lon);
     if byte_at(line, 0) == b'o' {
-        if writing::comes_again(text) {
-            return agrees(line, came, 0, 0);
+        if !again::comes_again(text) {
+            came.same = false;
         }
-        return wrong(line, came);
+        return came.agrees(line, 0, 0);
     }
-    let number = unsigned(want, 0);
-    let place = unsigned(want, after(want, number.next));
-    agrees(line, came, number.value, place.value)
-}
-
-fn agrees(line: &[u8], came: Came, number: usize, place: usize) -> bool {
-    if came.same {
-        if came.number == number {
-            if came.place == place {
-                return true;
-            }
-        }
-    }
-    wrong(line, came)
-}
-
-// Prints a case that is wrong, and what it came to.
-fn wrong(line: &[u8], came: Came) -> bool {
-    io::write_all(1, b"wrong ");
-    io::write_all(1, line);
-    io::write_all(1, b" came=");
-    io::print_decimal(1, came.number as u64);
-    io::write_all(1, b",");
-    io::print_decimal(1, came.place as u64);
-    io::write_all(1, b"\n");
-    false
+    let why = unsigned_pair(want, 0);
+    came.agrees(line, why.first, why.second)
 }

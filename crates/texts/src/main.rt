@@ -11,22 +11,21 @@
 // The edit `OLD>NEW` puts NEW for the first OLD of the sheet, and after `OLD|NEW` the text ends there. In a text `\n`, `\r`, `\t`,
 // `\0` and `\f` are a newline, a carriage return, a tab, a 0 and a 255, and `[PIECE*TIMES]` is a piece that comes so many times.
 // Empty lines and lines that start with `#` are passed over.
-mod bytes;
+mod again;
 mod cases;
+mod edits;
 mod lent;
-mod numbers;
 mod reading;
-mod script;
-mod tally;
-mod writing;
+mod substring;
 
-use bytes::find;
 use cases::Run;
+use script::groups::Line;
+use script::text::find;
 
 fn main() {
     let mut space = io::large_buffer();
-    let mut sheet = [0u8; 49_152];
-    let mut text = [0u8; 49_152];
+    let mut sheet = io::large_buffer();
+    let mut text = io::large_buffer();
     let n = io::read_full(0, &mut space);
     run(&space[..n], &mut sheet, &mut text);
 }
@@ -34,11 +33,11 @@ fn main() {
 // Runs a script, with room for a sheet and for a text that is made of it.
 fn run(script: &[u8], sheet: &mut [u8], text: &mut [u8]) {
     let mut run = Run::new();
-    let mut at: usize = 0;
-    while at < script.len() {
-        let end = find(script, at, b'\n');
-        run = cases::line(run, script, at, end, sheet, text);
-        at = end + 1;
+    let mut from: usize = 0;
+    while from < script.len() {
+        let to = find(script, from, b'\n');
+        run = cases::line(run, script, Line { from, to }, sheet, text);
+        from = to + 1;
     }
     run.finish(script);
 }

@@ -1,15 +1,15 @@
+use borrow.Author.Needs.{needs}
 use Prim.Native.Nat.{_≤_, _+_, _-_}
 use mathlib.Core.Path.{_≡_}
-use borrow.Author.Needs.{needs}
 use lib.ListN.{length}
 use Rattle.texts.proofs.run.Statement.{statement}
 use Rattle.texts.proofs.run.Tie as tie
 
 abbrev Inv-loop : tie.InvT-loop
-Inv-loop script sheet₀ text₀ run₀ at₀ sheet text run at = (at ≤ length script + 1) × (length sheet ≡ length sheet₀) × (length text ≡ length text₀)
+Inv-loop script sheet₀ text₀ run₀ from₀ sheet text run from = (from ≤ length script + 1) × (length sheet ≡ length sheet₀) × (length text ≡ length text₀)
 
 abbrev μ-loop : tie.MeasureT-loop
-μ-loop script sheet₀ text₀ run₀ at₀ sheet text run at = length script + 1 - at
+μ-loop script sheet₀ text₀ run₀ from₀ sheet text run from = length script + 1 - from
 
 new-requires : tie.Need-new-requires Inv-loop μ-loop
 new-requires c κs = search needs
@@ -23,8 +23,8 @@ find-requires c κs = search needs
 line-requires : tie.Need-line-requires Inv-loop μ-loop
 line-requires c κs = search needs
 
-add-at : tie.Need-add-at Inv-loop μ-loop
-add-at c = search needs
+add-from : tie.Need-add-from Inv-loop μ-loop
+add-from c = search needs
 
 loop-less : tie.Need-loop-less Inv-loop μ-loop
 loop-less c = search needs
@@ -54,7 +54,7 @@ run-spec =
     loop-holds
     find-requires
     line-requires
-    add-at
+    add-from
     loop-less
     loop-again
     finish-requires

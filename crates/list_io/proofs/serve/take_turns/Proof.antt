@@ -5,10 +5,10 @@ use Rattle.list_io.proofs.serve.take_turns.Statement.{statement}
 use Rattle.list_io.proofs.serve.take_turns.Tie as tie
 
 abbrev Inv-loop : tie.InvT-loop
-Inv-loop h lat lon room₀ list₀ turns₀ room list turns = length room ≡ length room₀
+Inv-loop requests h lat lon room₀ list₀ turns₀ room list turns = length room ≡ length room₀
 
 abbrev μ-loop : tie.MeasureT-loop
-μ-loop h lat lon room₀ list₀ turns₀ room list turns = turns
+μ-loop requests h lat lon room₀ list₀ turns₀ room list turns = turns
 
 new-requires : tie.Need-new-requires Inv-loop μ-loop
 new-requires c κs = search needs

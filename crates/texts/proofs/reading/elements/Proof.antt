@@ -1,13 +1,13 @@
-use Prim.Native.Nat.{_-_}
 use borrow.Author.Needs.{needs}
+use Prim.Native.Nat.{_-_}
 use Rattle.texts.proofs.reading.elements.Statement.{statement}
 use Rattle.texts.proofs.reading.elements.Tie as tie
 
 abbrev Inv-loop : tie.InvT-loop
-Inv-loop numbers lat lon count came₀ k₀ came k = Unit {0}
+Inv-loop numbers lat lon count c₀ k₀ c k = Unit {0}
 
 abbrev μ-loop : tie.MeasureT-loop
-μ-loop numbers lat lon count came₀ k₀ came k = count - k
+μ-loop numbers lat lon count c₀ k₀ c k = count - k
 
 longer-requires : tie.Need-longer-requires Inv-loop μ-loop
 longer-requires c κs = search needs
@@ -42,11 +42,11 @@ loop-less c = search needs
 loop-again : tie.Need-loop-again Inv-loop μ-loop
 loop-again c = search needs
 
-at-requires : tie.Need-at-requires Inv-loop μ-loop
-at-requires c κs = search needs
-
 returns : tie.Need-returns Inv-loop μ-loop
 returns c = search needs
+
+returns-2 : tie.Need-returns-2 Inv-loop μ-loop
+returns-2 c = search needs
 
 pub elements-spec : {M : Type 1} → statement M
 elements-spec =
@@ -65,5 +65,5 @@ elements-spec =
     add-k
     loop-less
     loop-again
-    at-requires
-    returns)
+    returns
+    returns-2)
