@@ -4,7 +4,6 @@ mod offsets;
 pub mod pairs;
 mod search;
 
-use figures::Nad83;
 use figures::Point27;
 use figures::Point83;
 use figures::Refusal;
@@ -19,7 +18,7 @@ ghost use Rattle.laws.specs.Parts.{Within};
 ghost use Rattle.figures.specs.Outcome.{answered, mapAnswer};
 ghost use Rattle.grid.specs.Grid.{gridOf};
 ghost use Rattle.grid.specs.Check.{layout, Passes};
-ghost use Rattle.shift.specs.Shift.{outcome};
+ghost use Rattle.shift.specs.Shift.{shiftOutcome};
 ghost use Rattle.convert.specs.Points.{answerOf};
 ghost use Rattle.convert.specs.Convert.{outcome83, outcome27, to83, to27, forward};
 ghost use Rattle.convert.specs.Rounds.{orZero, settle, inverse};
@@ -81,7 +80,7 @@ fn forward_on<'a>(h: Header, lat: &'a [i64], lon: &'a [i64], p: Point27) -> Answ
     requires { ⌜ layout (gridOf h (now lat) (now lon)) ≡ answered tt ⌝ }
     ensures { λ r. ⌜ outcome83 r ≡ forward (gridOf h (now (lat .entry)) (now (lon .entry))) p ⌝ }
 {
-    match offsets::place_of(h, p) {
+    match offsets::position_of(h, p) {
         Place::Outside => Answer83::Refused(Refusal::OffGrid),
         Place::At(x, y) => match shift::shift_at(h, lat, lon, x, y) {
             Interpolated::Refused(why) => Answer83::Refused(why),
@@ -97,10 +96,10 @@ fn answer_of(p: Point27, s: Shift) -> Point83
 {
     let lat = p.lat;
     let lon = p.lon;
-    Point83 {
-        lat: Nad83(offsets::hundredfold(lat.0, s.lat)),
-        lon: Nad83(offsets::hundredfold(lon.0, s.lon)),
-    }
+    Point83::new(
+        offsets::hundredfold(lat.0, s.lat),
+        offsets::hundredfold(lon.0, s.lon),
+    )
 }
 
 fn inverse_on<'a>(h: Header, lat: &'a [i64], lon: &'a [i64], f: Point83) -> Answer27
@@ -116,8 +115,8 @@ fn inverse_on<'a>(h: Header, lat: &'a [i64], lon: &'a [i64], f: Point83) -> Answ
 // The candidate is the point if its answer is the figure; otherwise no point is.
 fn confirm(f: Point83, c: Found) -> Answer27
     requires { ⌜ (Within 1000000000 (c .point .lat .0)) × (Within 1000000000 (c .point .lon .0))
-        × (Within maxShift (orZero (outcome (c .shift)) .lat)) × (Within maxShift (orZero (outcome (c .shift)) .lon)) ⌝ }
-    ensures { λ r. ⌜ outcome27 r ≡ settle f (c .point) (mapAnswer (answerOf (c .point)) (outcome (c .shift))) ⌝ }
+        × (Within maxShift (orZero (shiftOutcome (c .shift)) .lat)) × (Within maxShift (orZero (shiftOutcome (c .shift)) .lon)) ⌝ }
+    ensures { λ r. ⌜ outcome27 r ≡ settle f (c .point) (mapAnswer (answerOf (c .point)) (shiftOutcome (c .shift))) ⌝ }
 {
     let p = c.point;
     let shift = c.shift;

@@ -9,7 +9,7 @@ ghost use Prim.Native.Nat.{_≤_};
 ghost use lib.ListN.{length};
 ghost use Rattle.laws.specs.Over.{over};
 ghost use Rattle.figures.specs.Outcome.{mapAnswer};
-ghost use Rattle.convert.specs.Pairs.{outcome};
+ghost use Rattle.convert.specs.Pairs.{pairOutcome};
 ghost use Rattle.dagglehurst.specs.Reply.{reply};
 ghost use Rattle.dagglehurst.specs.Header.{headerIn, numbers};
 ghost use Rattle.dagglehurst.specs.Points.{fitted, one, pairAfter};
@@ -47,8 +47,8 @@ pub(crate) fn put_header(h: Header, s: &mut [i64])
 
 // Stores one answer at the front of the room.
 pub(crate) fn put_answer(c: Converted, room: &mut [i64]) -> u64
-    ensures answer { λ r. ⌜ r ≡ reply (mapAnswer one (fitted (outcome c) (now (room .entry)))) ⌝ }
-    ensures room { λ r. ⌜ now (room .exit) ≡ pairAfter (fitted (outcome c) (now (room .entry))) (now (room .entry)) ⌝ }
+    ensures answer { λ r. ⌜ r ≡ reply (mapAnswer one (fitted (pairOutcome c) (now (room .entry)))) ⌝ }
+    ensures room { λ r. ⌜ now (room .exit) ≡ pairAfter (fitted (pairOutcome c) (now (room .entry))) (now (room .entry)) ⌝ }
 {
     match c {
         Converted::Refused(why) => reply::refused(why),

@@ -6,7 +6,7 @@ ghost use mathlib.Core.Path.{_≡_};
 ghost use Prim.Native.Nat.{_≤_};
 ghost use Rattle.figures.specs.Outcome.{answered, refusal};
 ghost use Rattle.writing.specs.Writing.{writtenOutcome};
-ghost use Rattle.convert.specs.Many.{outcome as filledOutcome};
+ghost use Rattle.convert.specs.Many.{manyOutcome};
 ghost use Rattle.dagglehurst.specs.Reply.{capped, reply};
 
 const MAX_VALUE: usize = 72_057_594_037_927_935;
@@ -40,7 +40,7 @@ pub(crate) fn written(w: Written) -> u64
 }
 
 pub(crate) fn filled(f: Filled) -> u64
-    ensures { λ r. ⌜ r ≡ reply (filledOutcome f) ⌝ }
+    ensures { λ r. ⌜ r ≡ reply (manyOutcome f) ⌝ }
 {
     match f {
         Filled::Points(n) => answered(n),

@@ -3,6 +3,6 @@ use mathlib.Core.Option.{Option, none, some}
 use lib.IntN.{ℤ}
 use Rattle.decimal.specs.declared.NumberRead.{NumberRead}
 
-abbrev pub outcome : NumberRead → Option ℤ
-outcome (NumberRead.Number x) = some x
-outcome NumberRead.Refused = none
+abbrev pub numberOutcome : NumberRead → Option ℤ
+numberOutcome (NumberRead.Number x) = some x
+numberOutcome NumberRead.Refused = none

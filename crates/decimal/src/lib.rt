@@ -7,7 +7,7 @@ use writing::Written;
 ghost use mathlib.Core.Path.{_≡_};
 ghost use Rattle.writing.specs.Writing.{Wrote};
 ghost use Rattle.decimal.specs.Spelling.{spell, numberIn};
-ghost use Rattle.decimal.specs.Reading.{outcome};
+ghost use Rattle.decimal.specs.Reading.{numberOutcome};
 
 // A number as far as its text was read.
 pub struct Number {
@@ -30,7 +30,7 @@ pub enum NumberRead {
 
 // The number that a text is.
 pub fn read_number(text: &[u8]) -> NumberRead
-    ensures { λ r. ⌜ outcome r ≡ numberIn (now (text .entry)) ⌝ }
+    ensures { λ r. ⌜ numberOutcome r ≡ numberIn (now (text .entry)) ⌝ }
 {
     let mut number = Number::new();
     let mut i: usize = 0;

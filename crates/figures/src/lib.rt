@@ -1,6 +1,7 @@
 // The figures of the two datums, points of each, and the refusals.
 ghost use mathlib.Core.Path.{_≡_};
 ghost use Rattle.figures.specs.Refusal.{numberOf, placeOf};
+ghost use Rattle.figures.specs.Points.{point27, point83};
 ghost use Rattle.figures.specs.Same.{samePair, same27, same83};
 
 // A NAD 27 figure, in thousandths of an arc second.
@@ -21,6 +22,15 @@ pub struct Point83 {
 }
 
 impl Point27 {
+    pub fn new(lat: i64, lon: i64) -> Point27
+        ensures { λ r. ⌜ r ≡ point27 lat lon ⌝ }
+    {
+        Point27 {
+            lat: Nad27(lat),
+            lon: Nad27(lon),
+        }
+    }
+
     pub fn same(self, other: Point27) -> bool
         ensures { λ r. ⌜ r ≡ same27 self other ⌝ }
     {
@@ -33,6 +43,15 @@ impl Point27 {
 }
 
 impl Point83 {
+    pub fn new(lat: i64, lon: i64) -> Point83
+        ensures { λ r. ⌜ r ≡ point83 lat lon ⌝ }
+    {
+        Point83 {
+            lat: Nad83(lat),
+            lon: Nad83(lon),
+        }
+    }
+
     pub fn same(self, figure: Point83) -> bool
         ensures { λ r. ⌜ r ≡ same83 self figure ⌝ }
     {

@@ -14,9 +14,9 @@ use Rattle.grid.specs.Nodes.{outOfRange, steepAt}
 use Rattle.grid.specs.declared.Shape.{Shape}
 use Rattle.grid.specs.declared.Checked.{Checked}
 
-abbrev pub outcome : Checked → Outcome Unit
-outcome Checked.Passes = answered tt
-outcome (Checked.Refused w) = refusal w
+abbrev pub checkOutcome : Checked → Outcome Unit
+checkOutcome Checked.Passes = answered tt
+checkOutcome (Checked.Refused w) = refusal w
 
 -- "a header rule is broken", at the first; "a lent node slice is shorter than rows × cols"
 unfoldable pub layout : Grid → Outcome Unit

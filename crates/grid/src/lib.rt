@@ -8,7 +8,7 @@ use figures::Nad27;
 use figures::Refusal;
 ghost use mathlib.Core.Path.{_≡_};
 ghost use Rattle.grid.specs.Grid.{header, gridOf};
-ghost use Rattle.grid.specs.Check.{outcome, layout, verdict};
+ghost use Rattle.grid.specs.Check.{checkOutcome, layout, verdict};
 ghost use Rattle.grid.specs.Nodes.{beyondRange};
 
 // South and west edge, spacing of rows and columns in thousandths of an arc second, number of rows and columns.
@@ -54,7 +54,7 @@ pub enum Checked {
 
 // The checks of a grid, in the order 2, 5, 3, 4: the first that it fails.
 pub fn check<'a>(h: Header, lat: &'a [i64], lon: &'a [i64]) -> Checked
-    ensures { λ r. ⌜ outcome r ≡ verdict (gridOf h (now (lat .entry)) (now (lon .entry))) ⌝ }
+    ensures { λ r. ⌜ checkOutcome r ≡ verdict (gridOf h (now (lat .entry)) (now (lon .entry))) ⌝ }
 {
     match check_layout(h, lat, lon) {
         Checked::Refused(why) => Checked::Refused(why),
@@ -64,7 +64,7 @@ pub fn check<'a>(h: Header, lat: &'a [i64], lon: &'a [i64]) -> Checked
 
 // The checks that look at no node: 2, then 5.
 pub fn check_layout<'a>(h: Header, lat: &'a [i64], lon: &'a [i64]) -> Checked
-    ensures { λ r. ⌜ outcome r ≡ layout (gridOf h (now (lat .entry)) (now (lon .entry))) ⌝ }
+    ensures { λ r. ⌜ checkOutcome r ≡ layout (gridOf h (now (lat .entry)) (now (lon .entry))) ⌝ }
 {
     let rule = h.broken_rule();
     if rule != 0 {

@@ -10,12 +10,12 @@ ghost use Prim.Native.Nat.{_*_, _<_, _≤_};
 ghost use Rattle.laws.specs.Parts.{Within};
 ghost use Rattle.laws.specs.First.{first};
 ghost use Rattle.grid.specs.Nodes.{maxShift, outOfRange, tooSteep, steepEast, steepNorth, steepAt};
-ghost use Rattle.grid.specs.Check.{outcome, nodesVerdict};
+ghost use Rattle.grid.specs.Check.{checkOutcome, nodesVerdict};
 ghost use Rattle.grid.specs.Needs.{Extent, InRange};
 
 pub(crate) fn check_nodes<'a>(shape: Shape, lat: &'a [i64], lon: &'a [i64]) -> Checked
     requires { ⌜ Extent shape ⌝ }
-    ensures { λ r. ⌜ outcome r ≡ nodesVerdict shape (now (lat .entry)) (now (lon .entry)) ⌝ }
+    ensures { λ r. ⌜ checkOutcome r ≡ nodesVerdict shape (now (lat .entry)) (now (lon .entry)) ⌝ }
 {
     let n = shape.rows * shape.cols;
     let far = first_out_of_range(lat, lon, n);

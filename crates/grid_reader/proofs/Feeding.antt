@@ -7,13 +7,13 @@ use lib.ListN.{length, set, getD, drop, drop-of-length-le, length-set}
 use lib.Seq.{drop-cons}
 use lib.IntN.{ℤ}
 use Rattle.figures.specs.declared.Refusal.{Refusal}
-use Rattle.grid_reader.specs.Scan.{step, Fed, taken, fed}
+use Rattle.grid_reader.specs.Scan.{step, Scanned, taken, fed}
 use Rattle.grid_reader.specs.declared.Scan.{Scan}
 use Rattle.grid_reader.specs.declared.Step.{Step}
 use Rattle.grid_reader.specs.declared.Taken.{Taken}
 
 -- a call's answer, and what it leaves in the two lists, are those of f
-abbrev pub Leaves : Fed → Taken → (lat lon : List ℤ) → Type 0
+abbrev pub Leaves : Scanned → Taken → (lat lon : List ℤ) → Type 0
 Leaves f o lat lon = (o ≡ f .out) × ((lat ≡ f .lat) × (lon ≡ f .lon))
 
 -- ---- one byte, of which the code has x for the step y
@@ -63,10 +63,10 @@ unfolding fed
 fed-refused room w lat lon [] = refl
 fed-refused room w lat lon (b ∷ text) = refl
 
-leaves : {o : Taken} {lat lon : List ℤ} {f : Fed} → _≡_ {A = Fed} (record { out = o; lat = lat; lon = lon }) f → Leaves f o lat lon
-leaves e = (ap (λ (f : Fed). f .out) e, (ap (λ (f : Fed). f .lat) e, ap (λ (f : Fed). f .lon) e))
+leaves : {o : Taken} {lat lon : List ℤ} {f : Scanned} → _≡_ {A = Scanned} (record { out = o; lat = lat; lon = lon }) f → Leaves f o lat lon
+leaves e = (ap (λ (f : Scanned). f .out) e, (ap (λ (f : Scanned). f .lat) e, ap (λ (f : Scanned). f .lon) e))
 
-module _ (f : Fed) (room : ℕ) (s : Scan) (lat lon : List ℤ) (text : List ℕ) (i : ℕ) (inv : fed room (Taken.On s) lat lon (drop i text) ≡ f) where
+module _ (f : Scanned) (room : ℕ) (s : Scan) (lat lon : List ℤ) (text : List ℕ) (i : ℕ) (inv : fed room (Taken.On s) lat lon (drop i text) ≡ f) where
   module _ (h : i < length text) {o : Taken} {lat′ lon′ : List ℤ} (e : Leaves (taken s lat lon (step room s (getD text i 0))) o lat′ lon′) where
     onward : fed room o lat′ lon′ (drop (i + 1) text) ≡ f
     onward = rw (e .0, e .1 .0, e .1 .1) (sym (fed-step room s lat lon text i h) ∙ inv)

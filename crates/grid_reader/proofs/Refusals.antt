@@ -14,7 +14,7 @@ use Rattle.figures.specs.Refusal.{numberOf, placeOf}
 use Rattle.figures.specs.declared.Refusal.{Refusal}
 use Rattle.grid.specs.Grid.{Grid}
 use Rattle.grid_reader.specs.Reading.{reading}
-use Rattle.grid_reader.specs.Scan.{wholeAt, lineAt, start, step, Fed, taken, fed, ended}
+use Rattle.grid_reader.specs.Scan.{wholeAt, lineAt, start, step, Scanned, taken, fed, ended}
 use Rattle.grid_reader.specs.SoFar.{newlines}
 use Rattle.grid_reader.specs.declared.Scan.{Scan}
 use Rattle.grid_reader.specs.declared.Step.{Step}
@@ -92,7 +92,7 @@ module _ (room : ℕ) where
         rest = a .rest;
         state = a .state;
         same = ap (λ (u : List ℕ). b ∷ u) (a .same);
-        goes = ap (λ (f : Fed). fed room (f .out) (f .lat) (f .lon) (a .before) .out) q ∙ a .goes;
+        goes = ap (λ (f : Scanned). fed room (f .out) (f .lat) (f .lon) (a .before) .out) q ∙ a .goes;
         stops = a .stops;
       }
 
@@ -102,7 +102,7 @@ module _ (room : ℕ) where
       go next (Step.On t) q e = later t _ _ (rw q) (next t _ _ e)
       go next (Step.Node t x y) q e = later t _ _ (rw q) (next t _ _ e)
       go next (Step.Refused w) q e =
-          let f : Taken.Refused w ≡ Taken.Refused r = ap (λ (x : Fed). x .out) (sym (fed-refused room w lat lon text)) ∙ e in
+          let f : Taken.Refused w ≡ Taken.Refused r = ap (λ (x : Scanned). x .out) (sym (fed-refused room w lat lon text)) ∙ e in
           let g : w ≡ r = cc in
           record { before = []; byte = b; rest = text; state = s; same = refl; goes = refl; stops = q ∙ ap Step.Refused g }
 
@@ -112,7 +112,7 @@ module _ (room : ℕ) where
   unfolding fed taken
   refused-behind w b s t lat lon r e f =
       let g = fed room (Taken.On s) lat lon w in
-      ap (λ (x : Fed). x .out) (fed-pieces room (Taken.On s) lat lon w (b ∷ []))
+      ap (λ (x : Scanned). x .out) (fed-pieces room (Taken.On s) lat lon w (b ∷ []))
       ∙ ap (λ (o : Taken). fed room o (g .lat) (g .lon) (b ∷ []) .out) e
       ∙ ap (λ (z : Step). taken t (g .lat) (g .lon) z .out) f
 

@@ -6,7 +6,7 @@ use native.Mathlib.Omega.{arith}
 use lib.ListN.{length, set}
 use lib.IntN.{ℤ}
 use Rattle.figures.specs.declared.Refusal.{Refusal}
-use Rattle.grid_reader.specs.Scan.{linesBefore, lineAt, start, step, Fed, taken, fed}
+use Rattle.grid_reader.specs.Scan.{linesBefore, lineAt, start, step, Scanned, taken, fed}
 use Rattle.grid_reader.specs.SoFar.{filledForm, linesSoFar, soFar, newlines}
 use Rattle.grid_reader.specs.declared.Scan.{Scan}
 use Rattle.grid_reader.specs.declared.Step.{Step}
@@ -37,7 +37,7 @@ refused-on e = let z : _≡_ {A = ℕ} 0 1 = cc in omega arith
 
 module _ (room : ℕ) where
   -- what is left of a text behind the step of a byte
-  abbrev rest : Scan → (lat lon : List ℤ) → Step → List ℕ → Fed
+  abbrev rest : Scan → (lat lon : List ℤ) → Step → List ℕ → Scanned
   rest s lat lon x t = let f = taken s lat lon x in fed room (f .out) (f .lat) (f .lon) t
 
   read-text : (s : Scan) (lat lon : List ℤ) (w t : List ℕ) (u : Scan) → Reached room s → Read s lat lon w → fed room (Taken.On s) lat lon t .out ≡ Taken.On u
@@ -53,7 +53,7 @@ module _ (room : ℕ) where
           → Reached room u × Read u (rest s lat lon z t .lat) (rest s lat lon z t .lon) (w ++ (b ∷ []) ++ t)
       go next (Step.On v) p k e = next v lat lon p k e
       go next (Step.Node v x y) p k e = next v (set lat (s .node) x) (set lon (s .node) y) p k e
-      go next (Step.Refused q) p k e = absurd (refused-on (ap (λ (f : Fed). f .out) (sym (fed-refused room q lat lon t)) ∙ e))
+      go next (Step.Refused q) p k e = absurd (refused-on (ap (λ (f : Scanned). f .out) (sym (fed-refused room q lat lon t)) ∙ e))
 
   module _ (lat lon : List ℤ) (l : 2048 ≤ length lat) (m : 2048 ≤ length lon) (w : List ℕ) (s : Scan) (e : fed room (Taken.On start) lat lon w .out ≡ Taken.On s) where
     read-start-text : Reached room s × Read s (fed room (Taken.On start) lat lon w .lat) (fed room (Taken.On start) lat lon w .lon) w
@@ -69,6 +69,6 @@ module _ (room : ℕ) where
   pub determined : (lat lon : List ℤ) → 2048 ≤ length lat → 2048 ≤ length lon → (v w : List ℕ) (s : Scan)
       → fed room (Taken.On start) lat lon v ≡ fed room (Taken.On start) lat lon w → fed room (Taken.On start) lat lon w .out ≡ Taken.On s → v ≡ w
   determined lat lon l m v w s e f =
-      sym (so-far lat lon l m v s (ap (λ (x : Fed). x .out) e ∙ f) .0)
-      ∙ ap (λ (x : Fed). soFar s (x .lat) (x .lon)) e
+      sym (so-far lat lon l m v s (ap (λ (x : Scanned). x .out) e ∙ f) .0)
+      ∙ ap (λ (x : Scanned). soFar s (x .lat) (x .lon)) e
       ∙ so-far lat lon l m w s f .0

@@ -10,7 +10,7 @@ use grid::Header;
 use slices::least;
 ghost use mathlib.Core.Path.{_≡_};
 ghost use Rattle.figures.specs.Outcome.{mapAnswer};
-ghost use Rattle.grid_reader.specs.Reading.{outcome, headerOf, reading, latAfter, lonAfter};
+ghost use Rattle.grid_reader.specs.Reading.{readOutcome, headerOf, reading, latAfter, lonAfter};
 ghost use Rattle.grid_reader.specs.Scan.{ended};
 ghost use Rattle.grid_reader.specs.Needs.{Stored};
 
@@ -48,7 +48,7 @@ pub enum GridRead {
 
 // Reads a grid's text. Its nodes go to the front of the two lent slices; a refused read leaves both as they were.
 pub fn read(text: &[u8], lat: &mut [i64], lon: &mut [i64]) -> GridRead
-    ensures answer { λ r. ⌜ outcome r ≡ mapAnswer headerOf (reading (now (text .entry)) (now (lat .entry)) (now (lon .entry))) ⌝ }
+    ensures answer { λ r. ⌜ readOutcome r ≡ mapAnswer headerOf (reading (now (text .entry)) (now (lat .entry)) (now (lon .entry))) ⌝ }
     ensures lat { λ r. ⌜ now (lat .exit) ≡ latAfter (reading (now (text .entry)) (now (lat .entry)) (now (lon .entry))) (now (lat .entry)) ⌝ }
     ensures lon { λ r. ⌜ now (lon .exit) ≡ lonAfter (reading (now (text .entry)) (now (lat .entry)) (now (lon .entry))) (now (lon .entry)) ⌝ }
 {
@@ -70,7 +70,7 @@ fn finish<'a>(
     lon: &mut [i64],
 ) -> GridRead
     requires { ⌜ Stored s (now lats) (now lons) (now lat) (now lon) ⌝ }
-    ensures answer { λ r. ⌜ outcome r ≡ mapAnswer headerOf (ended (Taken.On s) (now (lats .entry)) (now (lons .entry))) ⌝ }
+    ensures answer { λ r. ⌜ readOutcome r ≡ mapAnswer headerOf (ended (Taken.On s) (now (lats .entry)) (now (lons .entry))) ⌝ }
     ensures lat { λ r. ⌜ now (lat .exit) ≡ latAfter (ended (Taken.On s) (now (lats .entry)) (now (lons .entry))) (now (lat .entry)) ⌝ }
     ensures lon { λ r. ⌜ now (lon .exit) ≡ lonAfter (ended (Taken.On s) (now (lats .entry)) (now (lons .entry))) (now (lon .entry)) ⌝ }
 {

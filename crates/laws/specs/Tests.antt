@@ -68,7 +68,3 @@ part-whole {x = negsuc n} h = absurd (h .le)
 -- what is read of a slice, as it comes back from the machine
 pub element : {z : ℤ} → mag z < 2 ^ 63 → machine z ≡ z
 element h = toZ-ofZ (record { sfits = h })
-
--- a number that is handed on, and what it is
-pub told : {x y : ℤ} → SFits w64 x → x ≡ y → toZ w64 (ofZ w64 x) ≡ y
-told f e = toZ-ofZ f ∙ e

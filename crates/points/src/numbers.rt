@@ -1,6 +1,4 @@
 // Numbers with commas between, and what is made of them.
-use figures::Nad27;
-use figures::Nad83;
 use figures::Point27;
 use figures::Point83;
 use grid::Header;
@@ -38,17 +36,11 @@ impl Coordinates {
     }
 
     pub(crate) fn point27(self) -> Point27 {
-        Point27 {
-            lat: Nad27(self.lat),
-            lon: Nad27(self.lon),
-        }
+        Point27::new(self.lat, self.lon)
     }
 
     pub(crate) fn point83(self) -> Point83 {
-        Point83 {
-            lat: Nad83(self.lat),
-            lon: Nad83(self.lon),
-        }
+        Point83::new(self.lat, self.lon)
     }
 }
 
@@ -84,14 +76,7 @@ pub(crate) fn header(text: &[u8]) -> Header {
 }
 
 pub(crate) fn header_of(six: [i64; 6]) -> Header {
-    Header {
-        south: Nad27(six[0]),
-        west: Nad27(six[1]),
-        dlat: six[2],
-        dlon: six[3],
-        rows: six[4],
-        cols: six[5],
-    }
+    Header::new(six[0], six[1], six[2], six[3], six[4], six[5])
 }
 
 // The first `n` numbers of a list, or none where it has not so many.

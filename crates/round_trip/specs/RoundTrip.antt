@@ -15,10 +15,10 @@ comesBack g p = andThen (to83 g p) (answered p)
 unfoldable pub goesAgain : Grid → Point83 → Outcome Point83
 goesAgain g f = andThen (to27 g f) (answered f)
 
-abbrev pub isAnswer : {A : Type 0} → Outcome A → Bool
-isAnswer (answered a) = true
-isAnswer (refused n k) = false
+abbrev pub isAnswered : {A : Type 0} → Outcome A → Bool
+isAnswered (answered a) = true
+isAnswered (refused n k) = false
 
 -- "No two points share an answer"
 unfoldable pub oneAnswer : Grid → (p q : Point27) → Bool
-oneAnswer g p q = isAnswer (to83 g p) && same27 p q
+oneAnswer g p q = isAnswered (to83 g p) && same27 p q

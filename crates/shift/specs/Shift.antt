@@ -18,9 +18,9 @@ use Rattle.shift.specs.declared.Corners.{Corners}
 use Rattle.shift.specs.declared.Shift.{Shift}
 use Rattle.shift.specs.declared.Interpolated.{Interpolated}
 
-abbrev pub outcome : Interpolated → Outcome Shift
-outcome (Interpolated.At s) = answered s
-outcome (Interpolated.Refused w) = refusal w
+abbrev pub shiftOutcome : Interpolated → Outcome Shift
+shiftOutcome (Interpolated.At s) = answered s
+shiftOutcome (Interpolated.Refused w) = refusal w
 
 -- S1·B·D + S2·A·D + S3·B·C + S4·A·C
 unfoldable pub numerator : Corners → Cell → ℤ

@@ -14,7 +14,7 @@ ghost use lib.ListN.{length};
 ghost use Rattle.grid.specs.Grid.{gridOf};
 ghost use Rattle.grid.specs.Nodes.{beyondRange};
 ghost use Rattle.grid.specs.Needs.{Extent};
-ghost use Rattle.shift.specs.Shift.{outcome, cornersAt, shiftAt, shiftOn, shiftIn};
+ghost use Rattle.shift.specs.Shift.{shiftOutcome, cornersAt, shiftAt, shiftOn, shiftIn};
 ghost use Rattle.shift.specs.Needs.{CellIn};
 
 // The cell of a point: the row and column of its southwest node, and the point's distances A and B from its west and east side,
@@ -50,7 +50,7 @@ pub enum Interpolated {
 // The shift at the point `x` east and `y` north of the southwest corner. It looks at the header and at one cell, and refuses what
 // it finds there: 2, 5, 6 for a point past the edges, 3 for a corner. On a grid that passes the checks it answers at every point.
 pub fn shift_at<'a>(h: Header, lat: &'a [i64], lon: &'a [i64], x: usize, y: usize) -> Interpolated
-    ensures { λ r. ⌜ outcome r ≡ shiftAt (gridOf h (now (lat .entry)) (now (lon .entry))) x y ⌝ }
+    ensures { λ r. ⌜ shiftOutcome r ≡ shiftAt (gridOf h (now (lat .entry)) (now (lon .entry))) x y ⌝ }
 {
     match grid::check_layout(h, lat, lon) {
         Checked::Refused(why) => Interpolated::Refused(why),
@@ -61,7 +61,7 @@ pub fn shift_at<'a>(h: Header, lat: &'a [i64], lon: &'a [i64], x: usize, y: usiz
 fn shift_on<'a>(shape: Shape, lat: &'a [i64], lon: &'a [i64], x: usize, y: usize) -> Interpolated
     requires { ⌜ Extent shape ⌝ }
     requires { ⌜ (shape .rows * shape .cols ≤ length (now lat)) × (shape .rows * shape .cols ≤ length (now lon)) ⌝ }
-    ensures { λ r. ⌜ outcome r ≡ shiftOn shape (now (lat .entry)) (now (lon .entry)) x y ⌝ }
+    ensures { λ r. ⌜ shiftOutcome r ≡ shiftOn shape (now (lat .entry)) (now (lon .entry)) x y ⌝ }
 {
     if (shape.cols - 1) * shape.dlon < x {
         return Interpolated::Refused(Refusal::OffGrid);
@@ -76,7 +76,7 @@ fn shift_on<'a>(shape: Shape, lat: &'a [i64], lon: &'a [i64], x: usize, y: usize
 fn shift_in<'a>(shape: Shape, lat: &'a [i64], lon: &'a [i64], cell: Cell) -> Interpolated
     requires { ⌜ (Extent shape) × (CellIn shape cell) ⌝ }
     requires { ⌜ (shape .rows * shape .cols ≤ length (now lat)) × (shape .rows * shape .cols ≤ length (now lon)) ⌝ }
-    ensures { λ r. ⌜ outcome r ≡ shiftIn shape (now (lat .entry)) (now (lon .entry)) cell ⌝ }
+    ensures { λ r. ⌜ shiftOutcome r ≡ shiftIn shape (now (lat .entry)) (now (lon .entry)) cell ⌝ }
 {
     let sw = cell.row * shape.cols + cell.col;
     let nw = sw + shape.cols;

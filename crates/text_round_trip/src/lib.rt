@@ -5,7 +5,7 @@ use writing::Written;
 ghost use mathlib.Core.Path.{_≡_};
 ghost use Rattle.writing.specs.Writing.{roomAfter, writtenOutcome};
 ghost use Rattle.grid.specs.Grid.{gridOf};
-ghost use Rattle.grid_reader.specs.Reading.{outcome as read-outcome};
+ghost use Rattle.grid_reader.specs.Reading.{readOutcome};
 ghost use Rattle.text_round_trip.specs.Again.{textAgain, gridAgain, nodesAgain};
 
 // Reads a text and writes its grid again: the same text.
@@ -29,9 +29,9 @@ pub fn write_and_read<'a>(
     lats: &mut [i64],
     lons: &mut [i64],
 ) -> GridRead
-    ensures answer { λ r. ⌜ read-outcome r ≡ gridAgain (gridOf h (now (lat .entry)) (now (lon .entry))) (now (lats .entry)) (now (lons .entry)) ⌝ }
-    ensures lat { λ r. ⌜ now (lats .exit) ≡ nodesAgain (read-outcome r) (now (lat .entry)) (now (lats .entry)) ⌝ }
-    ensures lon { λ r. ⌜ now (lons .exit) ≡ nodesAgain (read-outcome r) (now (lon .entry)) (now (lons .entry)) ⌝ }
+    ensures answer { λ r. ⌜ readOutcome r ≡ gridAgain (gridOf h (now (lat .entry)) (now (lon .entry))) (now (lats .entry)) (now (lons .entry)) ⌝ }
+    ensures lat { λ r. ⌜ now (lats .exit) ≡ nodesAgain (readOutcome r) (now (lat .entry)) (now (lats .entry)) ⌝ }
+    ensures lon { λ r. ⌜ now (lons .exit) ≡ nodesAgain (readOutcome r) (now (lon .entry)) (now (lons .entry)) ⌝ }
 {
     let mut text = [0u8; 48_000];
     match grid_text::write(h, lat, lon, &mut text) {

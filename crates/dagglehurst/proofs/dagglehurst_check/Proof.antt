@@ -3,7 +3,7 @@ use mathlib.Core.Path.{sym, ap, _∙_}
 use Rattle.figures.specs.Outcome.{answered, mapAnswer}
 use Rattle.grid.specs.Grid.{gridOf}
 use Rattle.grid.specs.Rules.{nodesOf}
-use Rattle.grid.specs.Check.{outcome, verdict}
+use Rattle.grid.specs.Check.{checkOutcome, verdict}
 use Rattle.dagglehurst.specs.Reply.{reply}
 use Rattle.dagglehurst.specs.Header.{headerIn}
 use Rattle.dagglehurst.proofs.dagglehurst_check.Statement.{statement}
@@ -33,14 +33,14 @@ answered-requires c κs = search needs
 returns : tie.Need-returns
 returns c =
     let a = c .before .before .before .before .before .before .args in
-    let v = ap outcome (sym (c .before .before .why .given .1)) ∙ c .before .before .before .before .check .ensures ∙ ap (λ h. verdict (gridOf h (a .lat .now) (a .lon .now))) (c .before .before .before .before .before .header-in .ensures) in
+    let v = ap checkOutcome (sym (c .before .before .why .given .1)) ∙ c .before .before .before .before .check .ensures ∙ ap (λ h. verdict (gridOf h (a .lat .now) (a .lon .now))) (c .before .before .before .before .before .header-in .ensures) in
     c .refused .ensures ∙ ap (λ o. reply (mapAnswer (λ passed. nodesOf (headerIn (a .header .now))) o)) v
 
 returns-2 : tie.Need-returns-2
 returns-2 c =
     let a = c .before .before .before .before .before .before .args in
     let h = c .before .before .before .before .before .header-in .ensures in
-    let v = ap outcome (sym (c .before .before .enum-told .given .1)) ∙ c .before .before .before .before .check .ensures ∙ ap (λ h. verdict (gridOf h (a .lat .now) (a .lon .now))) h in
+    let v = ap checkOutcome (sym (c .before .before .enum-told .given .1)) ∙ c .before .before .before .before .check .ensures ∙ ap (λ h. verdict (gridOf h (a .lat .now) (a .lon .now))) h in
     c .answered .ensures ∙ ap (λ n. reply (answered n)) (c .before .nodes .ensures .0 ∙ ap nodesOf h)
     ∙ ap (λ o. reply (mapAnswer (λ passed. nodesOf (headerIn (a .header .now))) o)) v
 

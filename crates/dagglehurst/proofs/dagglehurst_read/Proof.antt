@@ -3,7 +3,7 @@ use mathlib.Core.Path.{refl, sym, ap, _∙_}
 use Rattle.laws.specs.Over.{over}
 use Rattle.figures.specs.Outcome.{answered, mapAnswer}
 use Rattle.grid.specs.Rules.{nodesOf}
-use Rattle.grid_reader.specs.Reading.{outcome, headerOf, reading, latAfter, lonAfter}
+use Rattle.grid_reader.specs.Reading.{readOutcome, headerOf, reading, latAfter, lonAfter}
 use Rattle.dagglehurst.specs.Reply.{reply}
 use Rattle.dagglehurst.specs.Header.{numbers, nodesIn, headerAfter}
 use Rattle.figures.proofs.Laws.{refused-map, answered-map}
@@ -52,7 +52,7 @@ unfolding headerAfter
 returns-2 c =
     let a = c .before .before .before .before .before .before .before .before .before .before .before .args in
     let d = c .before .before .before .before .before .before .read in
-    let o = refused-map headerOf (reading (a .text .now) (a .lat .now) (a .lon .now)) (ap outcome (sym (c .before .before .why .given .1)) ∙ d .ensures .0) in
+    let o = refused-map headerOf (reading (a .text .now) (a .lat .now) (a .lon .now)) (ap readOutcome (sym (c .before .before .why .given .1)) ∙ d .ensures .0) in
     rw (header-fits (a .text .now) (a .header .now) (a .lat .now) (a .lon .now) (c .before .before .before .before .before .before .before .before .before .if1 .left)) (
       c .refused .ensures ∙ ap (λ q. reply (mapAnswer nodesIn q)) (sym o),
       (ap (λ q. headerAfter q (a .header .now)) (sym o), d .ensures .1),
@@ -72,7 +72,7 @@ unfolding headerAfter
 returns-3 c =
     let a = c .before .before .before .before .before .before .before .before .before .before .before .before .before .before .before .args in
     let d = c .before .before .before .before .before .before .before .before .before .before .read in
-    let g = answered-map headerOf (reading (a .text .now) (a .lat .now) (a .lon .now)) (ap outcome (sym (c .before .before .before .before .before .before .h .given .1)) ∙ d .ensures .0) in
+    let g = answered-map headerOf (reading (a .text .now) (a .lat .now) (a .lon .now)) (ap readOutcome (sym (c .before .before .before .before .before .before .h .given .1)) ∙ d .ensures .0) in
     let h = sym (g .2) in
     let o = sym (g .1) in
     rw (header-fits (a .text .now) (a .header .now) (a .lat .now) (a .lon .now) (c .before .before .before .before .before .before .before .before .before .before .before .before .before .if1 .left)) (

@@ -1,7 +1,7 @@
 use borrow.Author.Needs.{needs}
 use mathlib.Core.Path.{sym, ap, _∙_}
 use Rattle.figures.proofs.Laws.{refused-first, passed-first}
-use Rattle.grid.specs.Check.{outcome, nodesVerdict, verdict}
+use Rattle.grid.specs.Check.{checkOutcome, nodesVerdict, verdict}
 use Rattle.grid.specs.declared.Shape.{Shape}
 use Rattle.grid.proofs.RuleLaws.{extent}
 use Rattle.grid.proofs.Passing.{laid}
@@ -23,13 +23,13 @@ shape-requires c κs = search needs
 check-nodes-requires : tie.Need-check-nodes-requires
 check-nodes-requires c κs =
     let l = c .before .before .before in
-    let e = sym (l .check-layout .ensures) ∙ ap outcome (c .before .enum-told .given .1) in
+    let e = sym (l .check-layout .ensures) ∙ ap checkOutcome (c .before .enum-told .given .1) in
     rw (c .shape .ensures) (extent (laid _ e .header))
 
 returns : tie.Need-returns
 unfolding verdict
 returns c =
-    refused-first _ (ap outcome (sym (c .before .why .given .1)) ∙ c .before .before .before .check-layout .ensures)
+    refused-first _ (ap checkOutcome (sym (c .before .why .given .1)) ∙ c .before .before .before .check-layout .ensures)
 
 returns-2 : tie.Need-returns-2
 unfolding verdict
@@ -39,7 +39,7 @@ returns-2 c =
     let a = l .before .args in
     c .check-nodes .ensures
     ∙ ap (λ (s : Shape). nodesVerdict s (a .lat .now) (a .lon .now)) (z .shape .ensures)
-    ∙ passed-first _ (ap outcome (sym (z .before .enum-told .given .1)) ∙ l .check-layout .ensures)
+    ∙ passed-first _ (ap checkOutcome (sym (z .before .enum-told .given .1)) ∙ l .check-layout .ensures)
 
 pub check-spec : {M : Type 1} → statement M
 check-spec =

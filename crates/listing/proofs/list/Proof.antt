@@ -1,7 +1,7 @@
 use borrow.Author.Needs.{needs}
 use mathlib.Core.Path.{refl, sym, ap, _∙_}
 use Rattle.grid.specs.Grid.{gridOf}
-use Rattle.grid.specs.Check.{outcome as checked}
+use Rattle.grid.specs.Check.{checkOutcome}
 use Rattle.writing.specs.Writing.{roomAfter}
 use Rattle.writing.proofs.Laws.{wrote-room}
 use Rattle.listing.specs.Listing.{listing}
@@ -23,7 +23,7 @@ list-checked-requires c κs = search needs
 
 returns : tie.Need-returns
 unfolding listing roomAfter
-returns c = (rw (← (ap checked (sym (c .before .why .given .1)) ∙ c .before .before .before .check .ensures)), refl)
+returns c = (rw (← (ap checkOutcome (sym (c .before .why .given .1)) ∙ c .before .before .before .check .ensures)), refl)
 
 same-length : tie.Need-same-length
 same-length c = search needs
@@ -34,7 +34,7 @@ returns-2 c =
     let w = c .before .before in
     let k = w .before .before in
     let a = k .before .before .before .before .before .args in
-    let p = sym (k .before .before .check .ensures) ∙ ap checked (k .enum-told .given .1) in
+    let p = sym (k .before .before .check .ensures) ∙ ap checkOutcome (k .enum-told .given .1) in
     let e = rw (once-afresh (gridOf (a .h) (a .lat .now) (a .lon .now)) p) at (w .list-checked .ensures) in
     (rw p (e .answer), wrote-room e)
 

@@ -1,5 +1,5 @@
 use mathlib.Core.Path.{sym, ap, _∙_}
-use Rattle.grid.specs.Check.{outcome as layoutOutcome}
+use Rattle.grid.specs.Check.{checkOutcome}
 use Rattle.grid.specs.declared.Shape.{Shape}
 use Rattle.grid.proofs.RuleLaws.{extent}
 use Rattle.grid.proofs.Passing.{laid}
@@ -24,13 +24,13 @@ shape-requires c κs = search needs
 shift-on-requires : tie.Need-shift-on-requires
 shift-on-requires c κs =
     let l = c .before .before .before in
-    let e = sym (l .check-layout .ensures) ∙ ap layoutOutcome (c .before .enum-told .given .1) in
+    let e = sym (l .check-layout .ensures) ∙ ap checkOutcome (c .before .enum-told .given .1) in
     let d = laid _ e in
     rw (c .shape .ensures) (extent (d .header), (d .room-lat, d .room-lon))
 
 returns : tie.Need-returns
 unfolding shiftAt
-returns c = refused-first _ (ap layoutOutcome (sym (c .before .why .given .1)) ∙ c .before .before .before .check-layout .ensures)
+returns c = refused-first _ (ap checkOutcome (sym (c .before .why .given .1)) ∙ c .before .before .before .check-layout .ensures)
 
 returns-2 : tie.Need-returns-2
 unfolding shiftAt
@@ -40,7 +40,7 @@ returns-2 c =
     let a = l .before .args in
     c .shift-on .ensures
     ∙ ap (λ (s : Shape). shiftOn s (a .lat .now) (a .lon .now) (a .x) (a .y)) (z .shape .ensures)
-    ∙ passed-first _ (ap layoutOutcome (sym (z .before .enum-told .given .1)) ∙ l .check-layout .ensures)
+    ∙ passed-first _ (ap checkOutcome (sym (z .before .enum-told .given .1)) ∙ l .check-layout .ensures)
 
 pub shift-at-spec : {M : Type 1} → statement M
 shift-at-spec =

@@ -1,6 +1,6 @@
 use borrow.Author.Needs.{needs}
 use mathlib.Core.Path.{sym, ap, _∙_}
-use Rattle.grid_reader.specs.Reading.{outcome}
+use Rattle.grid_reader.specs.Reading.{readOutcome}
 use Rattle.text_round_trip.specs.Again.{scratch}
 use Rattle.text_round_trip.proofs.AgainLaws.{text-refused, text-again}
 use Rattle.text_round_trip.proofs.read_and_write.Statement.{statement}
@@ -32,14 +32,14 @@ write-requires c κs = search needs
 
 returns : tie.Need-returns
 unfolding scratch
-returns c = text-refused _ _ (sym (ap outcome (c .before .why .given .1)) ∙ c .before .before .before .before .before .read .ensures .0)
+returns c = text-refused _ _ (sym (ap readOutcome (c .before .why .given .1)) ∙ c .before .before .before .before .before .read .ensures .0)
 
 same-length : tie.Need-same-length
 same-length c = search needs
 
 returns-2 : tie.Need-returns-2
 unfolding scratch
-returns-2 c = let r = c .before .before .before .before .before .before .before .before .before .before .before in text-again _ _ (sym (ap outcome (c .before .before .before .before .before .before .before .header .given .1)) ∙ r .read .ensures .0) (r .read .ensures .1 .0) (r .read .ensures .1 .1) (c .before .before .write .ensures .0) (c .before .before .write .ensures .1)
+returns-2 c = let r = c .before .before .before .before .before .before .before .before .before .before .before in text-again _ _ (sym (ap readOutcome (c .before .before .before .before .before .before .before .header .given .1)) ∙ r .read .ensures .0) (r .read .ensures .1 .0) (r .read .ensures .1 .1) (c .before .before .write .ensures .0) (c .before .before .write .ensures .1)
 
 pub read-and-write-spec : {M : Type 1} → statement M
 read-and-write-spec =
