@@ -2,6 +2,7 @@
 use super::output::put;
 use grid::Header;
 use listing::Listing;
+use requests::Reply;
 
 // What follows a turn.
 enum Next {
@@ -18,9 +19,14 @@ struct Turned {
     pub next: Next,
 }
 
-// The room has 47 bytes, those of the longest reply, for each byte of a block: the replies to a block always fit.
+// The most bytes that are read at once.
+const BLOCK: usize = 8_192;
+
+// Room for the longest line in reply to each byte of a block: the replies to a block always fit.
+const ROOM: usize = Reply::MAX_TEXT * BLOCK;
+
 pub(crate) fn serve<'a>(requests: i32, h: Header, lat: &'a [i64], lon: &'a [i64]) {
-    let mut room = [0u8; 385_024];
+    let mut room = [0u8; ROOM];
     let begun = listing::begin(h, lat, lon, &mut room);
     if put(begun, &room) {
         take_turns(requests, h, lat, lon, &mut room);
@@ -61,7 +67,7 @@ fn take_turn<'a>(
     lon: &'a [i64],
     room: &mut [u8],
 ) -> Turned {
-    let mut block = [0u8; 8192];
+    let mut block = [0u8; BLOCK];
     let got = libc::read(requests, &mut block);
     if got < 0 {
         os::fail(b"standard input");
