@@ -9,7 +9,7 @@ use Rattle.decimal.proofs.Number.value.Tie as tie
 
 returns : tie.Need-returns
 unfolding valueOf
-returns c = simp (lt-ltb _ _ (c .if1 .taken))
+returns c = rw (lt-ltb 99999999999 (c .before .before .args .self .magnitude) (omega (arith, c .if1 .taken)))
 
 cast-result : tie.Need-cast-result
 cast-result c = search needs
