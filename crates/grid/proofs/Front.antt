@@ -6,12 +6,12 @@ use mathlib.Core.List.{List}
 use native.Mathlib.Omega.{arith}
 use borrow.Author.Tests.{ltb-true, ltb-false, lt-ltb, le-ltb}
 use lib.Dec.{ltb}
-use lib.ListN.{length, take, length-take}
+use lib.ListN.{take, length-take}
 use lib.Seq.{getD-take}
 use lib.IntN.{ℤ, pos}
 use Rattle.laws.specs.First.{first-same}
 use Rattle.figures.specs.Outcome.{Outcome, answered, refused, andThen}
-use Rattle.grid.specs.Grid.{Grid, trimmed}
+use Rattle.grid.specs.Grid.{Nodes, firstNodes, nodeRoom, Grid, trimmed}
 use Rattle.grid.specs.Rules.{shape, nodeCount}
 use Rattle.grid.specs.Nodes.{node, beyondRange, outOfRange, tooSteep, steepEast, steepNorth, steepAt}
 use Rattle.grid.specs.Check.{layout, steepness, nodesVerdict, verdict}
@@ -41,33 +41,33 @@ module _ (s : Shape) (some-cols : 0 < s .cols) where
   unfolding steepNorth
   north-front S k l = guarded (ltb (k + s .cols) n) (λ e. let f = front S (k + s .cols) (ltb-true _ _ e) in λ j. tooSteep (s .dlat) (front S k l j) (f j))
 
-  nodes-front : (lat lon : List ℤ) → nodesVerdict s (take n lat) (take n lon) ≡ nodesVerdict s lat lon
+  nodes-front : (ns : Nodes) → nodesVerdict s (firstNodes n ns) ≡ nodesVerdict s ns
   unfolding nodesVerdict steepness outOfRange steepAt
-  nodes-front lat lon =
+  nodes-front ns =
       rw (
-        first-same (outOfRange (take n lat) (take n lon)) (outOfRange lat lon) n (λ j l i. beyondRange (front lat j l i) || beyondRange (front lon j l i)),
-        first-same (steepAt s (take n lat) (take n lon)) (steepAt s lat lon) n (λ j l i. (east-front lat j l i || east-front lon j l i) || (north-front lat j l i || north-front lon j l i)),
+        first-same (outOfRange (firstNodes n ns)) (outOfRange ns) n (λ j l i. beyondRange (front (ns .lat) j l i) || beyondRange (front (ns .lon) j l i)),
+        first-same (steepAt s (firstNodes n ns)) (steepAt s ns) n (λ j l i. (east-front (ns .lat) j l i || east-front (ns .lon) j l i) || (north-front (ns .lat) j l i || north-front (ns .lon) j l i)),
       )
 
 module _ (g : Grid) where
   abbrev count : ℕ
   count = nodeCount (g .header)
 
-  short-front : (S : List ℤ) → ltb (length (take count S)) count ≡ ltb (length S) count
-  short-front S = go (ltb (length S) count) refl
+  short-front : (ns : Nodes) → ltb (nodeRoom (firstNodes count ns)) count ≡ ltb (nodeRoom ns) count
+  short-front ns = go (ltb (nodeRoom ns) count) refl
     where
-      go : (t : Bool) → ltb (length S) count ≡ t → ltb (length (take count S)) count ≡ t
-      go true e = lt-ltb (length (take count S)) count (omega (arith, length-take count S, ltb-true (length S) count e))
-      go false e = le-ltb (length (take count S)) count (omega (arith, length-take count S, ltb-false (length S) count e))
+      go : (t : Bool) → ltb (nodeRoom ns) count ≡ t → ltb (nodeRoom (firstNodes count ns)) count ≡ t
+      go true e = lt-ltb (nodeRoom (firstNodes count ns)) count (omega (arith, length-take count (ns .lat), length-take count (ns .lon), ltb-true (nodeRoom ns) count e))
+      go false e = le-ltb (nodeRoom (firstNodes count ns)) count (omega (arith, length-take count (ns .lat), length-take count (ns .lon), ltb-false (nodeRoom ns) count e))
 
   layout-front : layout (trimmed g) ≡ layout g
   unfolding layout
-  layout-front = rw (short-front (g .lat), short-front (g .lon))
+  layout-front = rw (short-front (g .nodes))
 
   pub verdict-front : verdict (trimmed g) ≡ verdict g
   unfolding verdict
   verdict-front = rw layout-front (go (layout g) refl)
     where
-      go : (o : Outcome Unit) → layout g ≡ o → andThen o (nodesVerdict (shape (g .header)) (take count (g .lat)) (take count (g .lon))) ≡ andThen o (nodesVerdict (shape (g .header)) (g .lat) (g .lon))
-      go (answered tt) e = nodes-front (shape (g .header)) (omega (arith, extent (laid g e .header) .cols-low)) (g .lat) (g .lon)
+      go : (o : Outcome Unit) → layout g ≡ o → andThen o (nodesVerdict (shape (g .header)) (firstNodes count (g .nodes))) ≡ andThen o (nodesVerdict (shape (g .header)) (g .nodes))
+      go (answered tt) e = nodes-front (shape (g .header)) (omega (arith, extent (laid g e .header) .cols-low)) (g .nodes)
       go (refused n k) e = refl

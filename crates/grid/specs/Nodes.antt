@@ -5,6 +5,7 @@ use mathlib.Core.List.{List}
 use lib.Dec.{ltb}
 use lib.ListN.{getD}
 use lib.IntN.{ℤ, pos, natAbs, _-ℤ_}
+use Rattle.grid.specs.Grid.{Nodes}
 use Rattle.grid.specs.Rules.{minus, between}
 use Rattle.grid.specs.declared.Shape.{Shape}
 
@@ -20,8 +21,8 @@ maxShift = 6000000
 unfoldable pub beyondRange : ℤ → Bool
 beyondRange x = not (between (minus maxShift) x (pos maxShift))
 
-unfoldable pub outOfRange : (lat lon : List ℤ) → ℕ → Bool
-outOfRange lat lon k = beyondRange (node lat k) || beyondRange (node lon k)
+unfoldable pub outOfRange : Nodes → ℕ → Bool
+outOfRange ns k = beyondRange (node (ns .lat) k) || beyondRange (node (ns .lon) k)
 
 -- "the size of the difference between a node and its east neighbour, times 16, is at most 100 × dlon", denied; so to the north
 unfoldable pub tooSteep : (spacing : ℕ) → (a b : ℤ) → Bool
@@ -34,5 +35,5 @@ unfoldable pub steepNorth : Shape → List ℤ → ℕ → Bool
 steepNorth s S k = ltb (k + s .cols) (s .rows * s .cols) && tooSteep (s .dlat) (node S k) (node S (k + s .cols))
 
 -- "the east neighbour stands before the north one, then latitude before longitude"
-unfoldable pub steepAt : Shape → (lat lon : List ℤ) → ℕ → Bool
-steepAt s lat lon k = (steepEast s lat k || steepEast s lon k) || (steepNorth s lat k || steepNorth s lon k)
+unfoldable pub steepAt : Shape → Nodes → ℕ → Bool
+steepAt s ns k = (steepEast s (ns .lat) k || steepEast s (ns .lon) k) || (steepNorth s (ns .lat) k || steepNorth s (ns .lon) k)

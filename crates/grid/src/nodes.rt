@@ -9,13 +9,14 @@ ghost use mathlib.Core.Path.{_≡_};
 ghost use Prim.Native.Nat.{_*_, _<_, _≤_};
 ghost use Rattle.laws.specs.Parts.{Within};
 ghost use Rattle.laws.specs.First.{first};
+ghost use Rattle.grid.specs.Grid.{nodeLists};
 ghost use Rattle.grid.specs.Nodes.{maxShift, outOfRange, tooSteep, steepEast, steepNorth, steepAt};
 ghost use Rattle.grid.specs.Check.{checkOutcome, nodesVerdict};
 ghost use Rattle.grid.specs.Needs.{Extent, InRange};
 
 pub(crate) fn check_nodes<'a>(shape: Shape, lat: &'a [i64], lon: &'a [i64]) -> Checked
     requires { ⌜ Extent shape ⌝ }
-    ensures { λ r. ⌜ checkOutcome r ≡ nodesVerdict shape (now (lat .entry)) (now (lon .entry)) ⌝ }
+    ensures { λ r. ⌜ checkOutcome r ≡ nodesVerdict shape (nodeLists (now (lat .entry)) (now (lon .entry))) ⌝ }
 {
     let n = shape.rows * shape.cols;
     let far = first_out_of_range(lat, lon, n);
@@ -30,7 +31,7 @@ pub(crate) fn check_nodes<'a>(shape: Shape, lat: &'a [i64], lon: &'a [i64]) -> C
 }
 
 fn first_out_of_range<'a>(lat: &'a [i64], lon: &'a [i64], n: usize) -> usize
-    ensures { λ r. ⌜ r ≡ first (outOfRange (now (lat .entry)) (now (lon .entry))) n ⌝ }
+    ensures { λ r. ⌜ r ≡ first (outOfRange (nodeLists (now (lat .entry)) (now (lon .entry)))) n ⌝ }
 {
     let mut k: usize = 0;
     while k < n {
@@ -45,7 +46,7 @@ fn first_out_of_range<'a>(lat: &'a [i64], lon: &'a [i64], n: usize) -> usize
 fn first_steep<'a>(shape: Shape, lat: &'a [i64], lon: &'a [i64]) -> usize
     requires { ⌜ Extent shape ⌝ }
     requires { ⌜ (InRange (shape .rows * shape .cols) (now lat)) × (InRange (shape .rows * shape .cols) (now lon)) ⌝ }
-    ensures { λ r. ⌜ r ≡ first (steepAt shape (now (lat .entry)) (now (lon .entry))) (shape .rows * shape .cols) ⌝ }
+    ensures { λ r. ⌜ r ≡ first (steepAt shape (nodeLists (now (lat .entry)) (now (lon .entry)))) (shape .rows * shape .cols) ⌝ }
 {
     let n = shape.rows * shape.cols;
     let mut k: usize = 0;
@@ -62,7 +63,7 @@ fn first_steep<'a>(shape: Shape, lat: &'a [i64], lon: &'a [i64]) -> usize
 fn steep_at<'a>(shape: Shape, lat: &'a [i64], lon: &'a [i64], k: usize) -> bool
     requires { ⌜ Extent shape ⌝ }
     requires { ⌜ (InRange (shape .rows * shape .cols) (now lat)) × (InRange (shape .rows * shape .cols) (now lon)) × (k < shape .rows * shape .cols) ⌝ }
-    ensures { λ r. ⌜ r ≡ steepAt shape (now (lat .entry)) (now (lon .entry)) k ⌝ }
+    ensures { λ r. ⌜ r ≡ steepAt shape (nodeLists (now (lat .entry)) (now (lon .entry))) k ⌝ }
 {
     if steep_east(shape, lat, k) {
         return true;
@@ -112,7 +113,7 @@ fn too_steep(spacing: usize, a: i64, b: i64) -> bool
 
 // Whether node `k` has a shift beyond its range.
 fn out_of_range<'a>(lat: &'a [i64], lon: &'a [i64], k: usize) -> bool
-    ensures { λ r. ⌜ r ≡ outOfRange (now (lat .entry)) (now (lon .entry)) k ⌝ }
+    ensures { λ r. ⌜ r ≡ outOfRange (nodeLists (now (lat .entry)) (now (lon .entry))) k ⌝ }
 {
     if beyond_range(number_at(lat, k)) {
         return true;

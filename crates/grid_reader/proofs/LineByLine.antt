@@ -5,7 +5,7 @@ use mathlib.Core.Bool.{Bool, true, false, not, _&&_, _||_, cond}
 use mathlib.Core.List.{List, [], _∷_, _++_}
 use native.Mathlib.Omega.{arith}
 use native.Mathlib.Numerals.{add-one}
-use borrow.Author.Tests.{ltb-true, ltb-false, eqb-true, lt-ltb, le-ltb}
+use borrow.Author.Tests.{eqb-true, lt-ltb, le-ltb}
 use lib.Dec.{ltb, eqb}
 use lib.ListN.{length}
 use lib.IntN.{ℤ, pos}
@@ -17,7 +17,7 @@ use Rattle.laws.specs.Over.{over, over-set, over-take}
 use Rattle.decimal.specs.Pushing.{none}
 use Rattle.decimal.specs.declared.Number.{Number}
 use Rattle.lines.specs.Text.{newline}
-use Rattle.grid.specs.Grid.{header, Grid, gridOf}
+use Rattle.grid.specs.Grid.{header, nodeLists, Grid, gridOf}
 use Rattle.grid.specs.Rules.{brokenRule, shape, nodeCount}
 use Rattle.grid.specs.Nodes.{beyondRange}
 use Rattle.grid.specs.Check.{layout, steepness}
@@ -59,7 +59,7 @@ module _ (room : ℕ) (h : Header) (unbroken : brokenRule h ≡ 0) (z w : List �
 
   follows : (k : ℕ) (x : ℤ) (xs ys : List ℤ) → k + 1 ≡ nodeCount h → NodesSoFar (nodeCount h) xs ys → (t : List ℕ)
       → readFrom room (scan wholeAt none h (nodeCount h) k x) (over xs z) (over ys w) t
-      ≡ nothing (10 + nodeCount h) t (andThen (steepness (shape h) xs ys) (answered (gridOf h xs ys)))
+      ≡ nothing (10 + nodeCount h) t (andThen (steepness (shape h) (nodeLists xs ys)) (answered (gridOf h xs ys)))
   unfolding fed step literalStep form linesBefore lineEnd
   follows k x xs ys e r [] = rw (over-take xs z (nodeCount h) (r .lats), over-take ys w (nodeCount h) (r .lons), left-to-judge h xs ys unbroken r)
   follows k x xs ys e r (b ∷ t) =
@@ -73,7 +73,7 @@ module _ (room : ℕ) (h : Header) (unbroken : brokenRule h ≡ 0) (z w : List �
       ∙ ap (fixed (lineAt endLineAt k) (bytes "end=") t) (λ i u. counts room h (nodeCount h) k x (over xs z) (over ys w) (omega (arith, few)) (node-count h unbroken .0) u i)
       ∙ ap (field (lineAt endLineAt k) newline (bytes "end=") t) (λ i v u. refuseIf (not (eqZ v (pos (nodeCount h)))) 1 (lineAt endLineAt k) (follows k x xs ys e r u i))
       ∙ ap (λ (line : ℕ). field line newline (bytes "end=") t (λ v u. refuseIf (not (eqZ v (pos (nodeCount h)))) 1 line
-      (nothing (10 + nodeCount h) u (andThen (steepness (shape h) xs ys) (answered (gridOf h xs ys)))))) line-is
+      (nothing (10 + nodeCount h) u (andThen (steepness (shape h) (nodeLists xs ys)) (answered (gridOf h xs ys)))))) line-is
     where
       line-is : lineAt endLineAt k ≡ 9 + nodeCount h
       line-is = omega arith
@@ -120,15 +120,6 @@ module _ (room : ℕ) (h : Header) (unbroken : brokenRule h ≡ 0) (z w : List �
 
 -- ---- the header
 
--- the shorter slice is too short just where one of them is
-shorter : (a b n : ℕ) → ltb (min a b) n ≡ (ltb a n || ltb b n)
-shorter a b n = go (ltb a n) refl (ltb b n) refl
-  where
-    go : (p : Bool) → ltb a n ≡ p → (q : Bool) → ltb b n ≡ q → ltb (min a b) n ≡ (p || q)
-    go true e q f = lt-ltb (min a b) n (omega (arith, ltb-true a n e))
-    go false e true f = lt-ltb (min a b) n (omega (arith, ltb-true b n f))
-    go false e false f = le-ltb (min a b) n (omega (arith, ltb-false a n e, ltb-false b n f))
-
 module _ (lat lon lats lons : List ℤ) (roomy-z : 2048 ≤ length lats) (roomy-w : 2048 ≤ length lons) where
   abbrev room : ℕ
   room = min (length lat) (length lon)
@@ -161,8 +152,7 @@ module _ (lat lon lats lons : List ℤ) (roomy-z : 2048 ≤ length lats) (roomy-
       rules : (d : Bool) → eqb (brokenRule h) 0 ≡ d → onward room 0 lats lons (headerEnd room (scan colsAt none h 0 0 (pos 0))) t ≡ andThen (layout (gridOf h lat lon)) (nodes h (nodeCount h) 0 [] [] t)
       rules false e = rw e
       rules true e =
-          rw (e, shorter (length lat) (length lon) (nodeCount h))
-          (roomy (eqb-true (brokenRule h) 0 e) (ltb (length lat) (nodeCount h) || ltb (length lon) (nodeCount h)))
+          rw e (roomy (eqb-true (brokenRule h) 0 e) (ltb room (nodeCount h)))
 
   -- a line of the form, and what follows it
   fixed-line : (a : ℕ) (piece : List ℕ) (h : Header) {next : List ℕ → Outcome Grid} → isPiece a (linesBefore a) piece ≡ true

@@ -1,16 +1,16 @@
 -- A text is of the form if its reading is not refused by 1.
 use Prim.Native.Nat.{ℕ}
 use mathlib.Core.Path.{_≡_, ap}
-use mathlib.Core.Bool.{Bool, true, false, not, _||_}
+use mathlib.Core.Bool.{Bool, true, false, not}
 use mathlib.Core.List.{List}
 use native.Mathlib.Omega.{arith}
 use lib.Dec.{ltb, eqb}
-use lib.ListN.{length, take}
+use lib.ListN.{take}
 use lib.IntN.{ℤ}
 use Rattle.laws.specs.First.{first}
 use Rattle.figures.specs.Outcome.{Outcome, answered, refused, andThen, refuseIf}
 use Rattle.figures.proofs.Laws.{answer-not-refusal}
-use Rattle.grid.specs.Grid.{Grid, gridOf}
+use Rattle.grid.specs.Grid.{nodeRoom, Grid, gridOf}
 use Rattle.grid.specs.Rules.{brokenRule, shape, nodeCount}
 use Rattle.grid.specs.Nodes.{outOfRange, steepAt}
 use Rattle.grid.specs.Check.{layout, steepness, nodesVerdict, verdict}
@@ -39,11 +39,11 @@ verdict-of-form : (g : Grid) → OfForm (verdict g)
 unfolding verdict layout nodesVerdict steepness
 verdict-of-form g =
     let n = nodeCount (g .header) in
-    let far = first (outOfRange (g .lat) (g .lon)) n in
-    let steep = first (steepAt (shape (g .header)) (g .lat) (g .lon)) n in
+    let far = first (outOfRange (g .nodes)) n in
+    let steep = first (steepAt (shape (g .header)) (g .nodes)) n in
     andThen-of-form (layout g)
     (refuseIf-of-form (not (eqb (brokenRule (g .header)) 0)) 2 (brokenRule (g .header)) (omega arith)
-    (refuseIf-of-form (ltb (length (g .lat)) n || ltb (length (g .lon)) n) 5 n (omega arith) (answered-of-form tt)))
+    (refuseIf-of-form (ltb (nodeRoom (g .nodes)) n) 5 n (omega arith) (answered-of-form tt)))
     (refuseIf-of-form (ltb far n) 3 far (omega arith) (refuseIf-of-form (ltb steep n) 4 steep (omega arith) (answered-of-form tt)))
 
 -- a whole text is of the form

@@ -36,7 +36,7 @@ pub nodes-next : (lat lon : List ℤ) (k : ℕ) → nodeLines lat lon (k + 1) �
 unfolding nodeLines nodeLine
 nodes-next lat lon k = rw add-one
 
-length-grid : (g : Grid) → length (gridText g) ≡ length (headerText (g .header)) + length (nodeLines (g .lat) (g .lon) (nodeCount (g .header))) + length (line (bytes "end=") (pos (nodeCount (g .header)) ∷ []))
+length-grid : (g : Grid) → length (gridText g) ≡ length (headerText (g .header)) + length (nodeLines (g .nodes .lat) (g .nodes .lon) (nodeCount (g .header))) + length (line (bytes "end=") (pos (nodeCount (g .header)) ∷ []))
 unfolding gridText
 length-grid g = simp length-append (omega arith)
 
@@ -90,7 +90,7 @@ text-length g e =
       length-grid g,
       header-length (ok .header),
       m,
-      nodes-length (g .lat) (g .lon) n n (ok .of-lat .ranged) (ok .of-lon .ranged) (omega arith),
+      nodes-length (g .nodes .lat) (g .nodes .lon) n n (ok .of-lat .ranged) (ok .of-lon .ranged) (omega arith),
       one-number (bytes "end=") (pos n),
       length-spell (pos n) 4 (omega arith) (omega arith),
     )

@@ -31,4 +31,4 @@ nodeLines lat lon (suc k) = nodeLines lat lon k ++ nodeLine (node lat k) (node l
 
 -- "`end=` and the number of nodes"
 unfoldable pub gridText : Grid → List ℕ
-gridText g = headerText (g .header) ++ nodeLines (g .lat) (g .lon) (nodeCount (g .header)) ++ line (bytes "end=") (pos (nodeCount (g .header)) ∷ [])
+gridText g = headerText (g .header) ++ nodeLines (g .nodes .lat) (g .nodes .lon) (nodeCount (g .header)) ++ line (bytes "end=") (pos (nodeCount (g .header)) ∷ [])

@@ -211,7 +211,7 @@ module _ {s : Shape} (z : Extent s) {S : List ℤ} (p : Sound s S) where
 module _ {g : Grid} (ok : Good g) {x y : ℕ}
     (hx : x ≤ (shape (g .header) .cols - 1) * shape (g .header) .dlon) (hy : y ≤ (shape (g .header) .rows - 1) * shape (g .header) .dlat) where
   -- the routine refuses no point of it
-  pub shift-answered : shiftAt g x y ≡ answered (shiftOf (shape (g .header)) (g .lat) (g .lon) x y)
+  pub shift-answered : shiftAt g x y ≡ answered (shiftOf (shape (g .header)) (g .nodes) x y)
   unfolding component shiftAt
   shift-answered =
       let z = extent (ok .header) in
@@ -219,5 +219,5 @@ module _ {g : Grid} (ok : Good g) {x y : ℕ}
       let i = corners-range z (ok .of-lat) c in
       let j = corners-range z (ok .of-lon) c in
       sym (passed-first _ (sym (ok .laid-out)))
-      ∙ sym (on-grid (shape (g .header)) (g .lat) (g .lon) x y hx hy)
-      ∙ sym (none-beyond (shape (g .header)) (g .lat) (g .lon) (cellAt (shape (g .header)) x y) (node-not-beyond (g .lat) (g .lon) _ (i .sw) (j .sw)) (node-not-beyond (g .lat) (g .lon) _ (i .se) (j .se)) (node-not-beyond (g .lat) (g .lon) _ (i .nw) (j .nw)) (node-not-beyond (g .lat) (g .lon) _ (i .ne) (j .ne)))
+      ∙ sym (on-grid (shape (g .header)) (g .nodes) x y hx hy)
+      ∙ sym (none-beyond (shape (g .header)) (g .nodes) (cellAt (shape (g .header)) x y) (node-not-beyond (g .nodes) _ (i .sw) (j .sw)) (node-not-beyond (g .nodes) _ (i .se) (j .se)) (node-not-beyond (g .nodes) _ (i .nw) (j .nw)) (node-not-beyond (g .nodes) _ (i .ne) (j .ne)))

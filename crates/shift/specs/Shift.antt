@@ -7,7 +7,7 @@ use lib.IntN.{ℤ, pos, _+ℤ_, _*ℤ_}
 use Rattle.laws.specs.Parts.{posPart}
 use Rattle.bilinear.specs.Axis.{cellOf}
 use Rattle.figures.specs.Outcome.{Outcome, answered, refusal, andThen, refuseIf}
-use Rattle.grid.specs.Grid.{Grid}
+use Rattle.grid.specs.Grid.{Nodes, Grid}
 use Rattle.grid.specs.Rules.{shape}
 use Rattle.grid.specs.Nodes.{maxShift, node, outOfRange}
 use Rattle.grid.specs.Check.{layout}
@@ -49,8 +49,8 @@ northwest cols k = southwest cols k + cols
 unfoldable pub componentIn : (cols : ℕ) → List ℤ → Cell → ℤ
 componentIn cols S k = fourCorner (cornersAt S (southwest cols k) (northwest cols k)) k
 
-abbrev pub bothIn : (cols : ℕ) → (lat lon : List ℤ) → Cell → Shift
-bothIn cols lat lon k = record { lat = componentIn cols lat k; lon = componentIn cols lon k }
+abbrev pub bothIn : (cols : ℕ) → Nodes → Cell → Shift
+bothIn cols ns k = record { lat = componentIn cols (ns .lat) k; lon = componentIn cols (ns .lon) k }
 
 -- the cell of the point `x` east and `y` north, and the point's distances from its sides
 unfoldable pub cellAt : Shape → (x y : ℕ) → Cell
@@ -65,26 +65,26 @@ cellAt s x y =
 unfoldable pub component : Shape → List ℤ → (x y : ℕ) → ℤ
 component s S x y = componentIn (s .cols) S (cellAt s x y)
 
-abbrev pub shiftOf : Shape → (lat lon : List ℤ) → (x y : ℕ) → Shift
-shiftOf s lat lon x y = record { lat = component s lat x y; lon = component s lon x y }
+abbrev pub shiftOf : Shape → Nodes → (x y : ℕ) → Shift
+shiftOf s ns x y = record { lat = component s (ns .lat) x y; lon = component s (ns .lon) x y }
 
 -- ---- the same of any header, slices and distances: 2, 5, 6 past the edges, 3 at the lowest corner beyond its range
 
-unfoldable pub shiftIn : Shape → (lat lon : List ℤ) → Cell → Outcome Shift
-shiftIn s lat lon k =
+unfoldable pub shiftIn : Shape → Nodes → Cell → Outcome Shift
+shiftIn s ns k =
     let sw = southwest (s .cols) k in
     let nw = northwest (s .cols) k in
-    refuseIf (outOfRange lat lon sw) 3 sw
-    (refuseIf (outOfRange lat lon (sw + 1)) 3 (sw + 1)
-    (refuseIf (outOfRange lat lon nw) 3 nw
-    (refuseIf (outOfRange lat lon (nw + 1)) 3 (nw + 1) (answered (bothIn (s .cols) lat lon k)))))
+    refuseIf (outOfRange ns sw) 3 sw
+    (refuseIf (outOfRange ns (sw + 1)) 3 (sw + 1)
+    (refuseIf (outOfRange ns nw) 3 nw
+    (refuseIf (outOfRange ns (nw + 1)) 3 (nw + 1) (answered (bothIn (s .cols) ns k)))))
 
-unfoldable pub shiftOn : Shape → (lat lon : List ℤ) → (x y : ℕ) → Outcome Shift
-shiftOn s lat lon x y =
-    refuseIf (ltb ((s .cols - 1) * s .dlon) x || ltb ((s .rows - 1) * s .dlat) y) 6 0 (shiftIn s lat lon (cellAt s x y))
+unfoldable pub shiftOn : Shape → Nodes → (x y : ℕ) → Outcome Shift
+shiftOn s ns x y =
+    refuseIf (ltb ((s .cols - 1) * s .dlon) x || ltb ((s .rows - 1) * s .dlat) y) 6 0 (shiftIn s ns (cellAt s x y))
 
 unfoldable pub shiftAt : Grid → (x y : ℕ) → Outcome Shift
-shiftAt g x y = andThen (layout g) (shiftOn (shape (g .header)) (g .lat) (g .lon) x y)
+shiftAt g x y = andThen (layout g) (shiftOn (shape (g .header)) (g .nodes) x y)
 
 -- a shift in its range, raised so that it is a natural number: for the search of the way back, and for the theorems
 unfoldable pub raise : ℤ → ℕ

@@ -11,7 +11,7 @@ ghost use mathlib.Core.Path.{_≡_};
 ghost use mathlib.Core.Bool.{_||_};
 ghost use Prim.Native.Nat.{_+_, _*_, _≤_, _<_};
 ghost use lib.ListN.{length};
-ghost use Rattle.grid.specs.Grid.{gridOf};
+ghost use Rattle.grid.specs.Grid.{nodeLists, nodeRoom, gridOf};
 ghost use Rattle.grid.specs.Nodes.{beyondRange};
 ghost use Rattle.grid.specs.Needs.{Extent};
 ghost use Rattle.shift.specs.Shift.{shiftOutcome, cornersAt, shiftAt, shiftOn, shiftIn};
@@ -60,8 +60,8 @@ pub fn shift_at<'a>(h: Header, lat: &'a [i64], lon: &'a [i64], x: usize, y: usiz
 
 fn shift_on<'a>(shape: Shape, lat: &'a [i64], lon: &'a [i64], x: usize, y: usize) -> Interpolated
     requires { ⌜ Extent shape ⌝ }
-    requires { ⌜ (shape .rows * shape .cols ≤ length (now lat)) × (shape .rows * shape .cols ≤ length (now lon)) ⌝ }
-    ensures { λ r. ⌜ shiftOutcome r ≡ shiftOn shape (now (lat .entry)) (now (lon .entry)) x y ⌝ }
+    requires { ⌜ shape .rows * shape .cols ≤ nodeRoom (nodeLists (now lat) (now lon)) ⌝ }
+    ensures { λ r. ⌜ shiftOutcome r ≡ shiftOn shape (nodeLists (now (lat .entry)) (now (lon .entry))) x y ⌝ }
 {
     if (shape.cols - 1) * shape.dlon < x {
         return Interpolated::Refused(Refusal::OffGrid);
@@ -75,8 +75,8 @@ fn shift_on<'a>(shape: Shape, lat: &'a [i64], lon: &'a [i64], x: usize, y: usize
 // The corners are read, judged and only then used.
 fn shift_in<'a>(shape: Shape, lat: &'a [i64], lon: &'a [i64], cell: Cell) -> Interpolated
     requires { ⌜ (Extent shape) × (CellIn shape cell) ⌝ }
-    requires { ⌜ (shape .rows * shape .cols ≤ length (now lat)) × (shape .rows * shape .cols ≤ length (now lon)) ⌝ }
-    ensures { λ r. ⌜ shiftOutcome r ≡ shiftIn shape (now (lat .entry)) (now (lon .entry)) cell ⌝ }
+    requires { ⌜ shape .rows * shape .cols ≤ nodeRoom (nodeLists (now lat) (now lon)) ⌝ }
+    ensures { λ r. ⌜ shiftOutcome r ≡ shiftIn shape (nodeLists (now (lat .entry)) (now (lon .entry))) cell ⌝ }
 {
     let sw = cell.row * shape.cols + cell.col;
     let nw = sw + shape.cols;

@@ -14,7 +14,7 @@ use Rattle.laws.specs.Logic.{eqZ, eqZ-holds}
 use Rattle.figures.specs.Outcome.{Outcome, answered, andThen, refuseIf}
 use Rattle.figures.proofs.Laws.{answer-not-refusal, both-answered, not-refused, same-answer}
 use Rattle.decimal.specs.Spelling.{spell}
-use Rattle.grid.specs.Grid.{header, Grid, gridOf}
+use Rattle.grid.specs.Grid.{header, nodeLists, Grid, gridOf}
 use Rattle.grid.specs.Rules.{brokenRule, shape, nodeCount}
 use Rattle.grid.specs.Nodes.{beyondRange}
 use Rattle.grid.specs.Check.{layout, steepness, Passes}
@@ -65,8 +65,8 @@ module _ {A : Type 0} {g : A} where
 pub record Accepted (text : List ℕ) (g : Grid) : Type 0 where
   pub same : text ≡ gridText g
   pub passes : Passes g
-  pub lats : length (g .lat) ≡ nodeCount (g .header)
-  pub lons : length (g .lon) ≡ nodeCount (g .header)
+  pub lats : length (g .nodes .lat) ≡ nodeCount (g .header)
+  pub lons : length (g .nodes .lon) ≡ nodeCount (g .header)
 
 nothing-there : {A : Type 0} {g : A} (n : ℕ) (t : List ℕ) (o : Outcome A) → nothing n t o ≡ answered g → (t ≡ []) × (o ≡ answered g)
 nothing-there n [] o e = (refl, e)
@@ -83,8 +83,8 @@ module _ (h : Header) where
   -- what was read of the nodes, and the rest of the text
   abbrev Rest : (k : ℕ) (xs ys : List ℤ) → List ℕ → Grid → Type 0
   Rest k xs ys t g =
-      (g .header ≡ h) × (nodeLines xs ys k ++ t ≡ nodeLines (g .lat) (g .lon) (nodeCount h) ++ line (bytes "end=") (pos (nodeCount h) ∷ []))
-      × Passes g × (length (g .lat) ≡ nodeCount h) × (length (g .lon) ≡ nodeCount h)
+      (g .header ≡ h) × (nodeLines xs ys k ++ t ≡ nodeLines (g .nodes .lat) (g .nodes .lon) (nodeCount h) ++ line (bytes "end=") (pos (nodeCount h) ∷ []))
+      × Passes g × (length (g .nodes .lat) ≡ nodeCount h) × (length (g .nodes .lon) ≡ nodeCount h)
 
   module _ (unbroken : brokenRule h ≡ 0) where
     end-there : (xs ys : List ℤ) (t : List ℕ) (g : Grid) → NodesSoFar (nodeCount h) xs ys → ending h xs ys t ≡ answered g → Rest (nodeCount h) xs ys t g
@@ -92,12 +92,12 @@ module _ (h : Header) where
     end-there xs ys t g s e =
         let n = nodeCount h in
         let grid = gridOf h xs ys in
-        let last = andThen (steepness (shape h) xs ys) (answered grid) in
+        let last = andThen (steepness (shape h) (nodeLists xs ys)) (answered grid) in
         let f = line-there (9 + n) (bytes "end=") t (λ count u. refuseIf (not (eqZ count (pos n))) 1 (9 + n) (nothing (10 + n) u last)) e in
         let r = not-refused (not (eqZ (f .0) (pos n))) 1 (9 + n) (nothing (10 + n) (f .1) last) (f .3) in
         let c : f .0 ≡ pos n = eqZ-holds (not-false (eqZ (f .0) (pos n)) (r .0)) in
         let o = nothing-there (10 + n) (f .1) last (r .1) in
-        let v = both-answered (steepness (shape h) xs ys) (answered grid) (o .1) in
+        let v = both-answered (steepness (shape h) (nodeLists xs ys)) (answered grid) (o .1) in
         let t-is : t ≡ line (bytes "end=") (pos n ∷ []) = f .2 ∙ (λ i. line (bytes "end=") (c i ∷ []) ++ o .0 i) ∙ append-nil (line (bytes "end=") (pos n ∷ [])) in
         subst (λ (q : Grid). Rest (nodeCount h) xs ys t q) (same-answer (v .1))
         (refl, ap (λ (q : List ℕ). nodeLines xs ys n ++ q) t-is, left-to-judge h xs ys unbroken s ∙ v .0 .1, s .lats, s .lons)
@@ -147,8 +147,8 @@ whole h text rest g e r =
     record {
       same =
           e ∙ ap (λ (t : List ℕ). headerText h ++ t) (r .1)
-          ∙ sym (append-assoc (headerText h) (nodeLines (g .lat) (g .lon) (nodeCount h)) (line (bytes "end=") (pos (nodeCount h) ∷ [])))
-          ∙ ap (λ (k : Header). headerText k ++ nodeLines (g .lat) (g .lon) (nodeCount k) ++ line (bytes "end=") (pos (nodeCount k) ∷ [])) (sym (r .0));
+          ∙ sym (append-assoc (headerText h) (nodeLines (g .nodes .lat) (g .nodes .lon) (nodeCount h)) (line (bytes "end=") (pos (nodeCount h) ∷ [])))
+          ∙ ap (λ (k : Header). headerText k ++ nodeLines (g .nodes .lat) (g .nodes .lon) (nodeCount k) ++ line (bytes "end=") (pos (nodeCount k) ∷ [])) (sym (r .0));
       passes = r .2;
       lats = r .3 ∙ ap nodeCount (sym (r .0));
       lons = r .4 ∙ ap nodeCount (sym (r .0));

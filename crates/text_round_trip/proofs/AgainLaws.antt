@@ -1,7 +1,7 @@
 -- The two returns of text: each answer of the code is the one that the definitions name.
 use Prim.Native.Nat.{ℕ, _≤_}
 use mathlib.Core.Path.{_≡_, refl, sym, ap, _∙_}
-use mathlib.Core.Bool.{Bool, true, false, _||_}
+use mathlib.Core.Bool.{Bool, true, false}
 use mathlib.Core.List.{List, [], _∷_, _++_}
 use native.Mathlib.Omega.{arith}
 use lib.Dec.{ltb}
@@ -11,7 +11,7 @@ use Rattle.laws.specs.Bytes.{bytes}
 use Rattle.figures.specs.Outcome.{Outcome, answered, refused, andThen, mapAnswer}
 use Rattle.figures.proofs.Laws.{answer-not-refusal, same-answer, both-answered, refused-map, answered-map}
 use Rattle.laws.specs.Over.{over, length-over, over-take}
-use Rattle.grid.specs.Grid.{Grid, gridOf, trimmed}
+use Rattle.grid.specs.Grid.{nodeLists, nodeRoom, Grid, gridOf, trimmed}
 use Rattle.grid.specs.Rules.{nodeCount}
 use Rattle.grid.specs.Check.{layout, verdict, Passes}
 use Rattle.grid.specs.declared.Header.{Header}
@@ -45,17 +45,17 @@ module _ (text room : List ℕ) where
   text-refused e = (rw (refused-map headerOf (reading text scratch scratch) e), refl)
 
   -- the grid that was read stands at the front of two lists, and its text is the text that was read
-  again : (g : Grid) (z w : List ℤ) → Accepted text g → Passes (gridOf (g .header) (over (g .lat) z) (over (g .lon) w)) × (gridText (gridOf (g .header) (over (g .lat) z) (over (g .lon) w)) ≡ text)
+  again : (g : Grid) (z w : List ℤ) → Accepted text g → Passes (gridOf (g .header) (over (g .nodes .lat) z) (over (g .nodes .lon) w)) × (gridText (gridOf (g .header) (over (g .nodes .lat) z) (over (g .nodes .lon) w)) ≡ text)
   unfolding over gridText
   again g z w a =
       let h = g .header in
-      let x = over (g .lat) z in
-      let y = over (g .lon) w in
-      let p : take (nodeCount h) x ≡ g .lat = over-take (g .lat) z (nodeCount h) (a .lats) in
-      let q : take (nodeCount h) y ≡ g .lon = over-take (g .lon) w (nodeCount h) (a .lons) in (
+      let x = over (g .nodes .lat) z in
+      let y = over (g .nodes .lon) w in
+      let p : take (nodeCount h) x ≡ g .nodes .lat = over-take (g .nodes .lat) z (nodeCount h) (a .lats) in
+      let q : take (nodeCount h) y ≡ g .nodes .lon = over-take (g .nodes .lon) w (nodeCount h) (a .lons) in (
         sym (verdict-front (gridOf h x y)) ∙ (λ i. verdict (gridOf h (p i) (q i))) ∙ a .passes,
         ap (λ (t : List ℕ). (headerText h ++ t) ++ line (bytes "end=") (pos (nodeCount h) ∷ []))
-            (lines-front (g .lat) (g .lon) (drop (length (g .lat)) z) (drop (length (g .lon)) w) (nodeCount h) (omega (arith, a .lats)) (omega (arith, a .lons)))
+            (lines-front (g .nodes .lat) (g .nodes .lon) (drop (length (g .nodes .lat)) z) (drop (length (g .nodes .lon)) w) (nodeCount h) (omega (arith, a .lats)) (omega (arith, a .lons)))
             ∙ sym (a .same),
       )
 
@@ -66,8 +66,8 @@ module _ (text room : List ℕ) where
     unfolding textAgain writing latAfter lonAfter
     text-again =
         let r = answered-map headerOf (reading text scratch scratch) e in
-        let x : lat ≡ over (r .0 .lat) scratch = p ∙ ap (λ (k : Outcome Grid). latAfter k scratch) (r .1) in
-        let y : lon ≡ over (r .0 .lon) scratch = q ∙ ap (λ (k : Outcome Grid). lonAfter k scratch) (r .1) in
+        let x : lat ≡ over (r .0 .nodes .lat) scratch = p ∙ ap (λ (k : Outcome Grid). latAfter k scratch) (r .1) in
+        let y : lon ≡ over (r .0 .nodes .lon) scratch = q ∙ ap (λ (k : Outcome Grid). lonAfter k scratch) (r .1) in
         let b = again (r .0) scratch scratch (accepted text scratch scratch (r .0) (r .1)) in (
           w ∙ (λ i. writing (gridOf (sym (r .2) i) (x i) (y i)) room) ∙ rw (b .0, b .1, r .1),
           v ∙ ap (λ (t : List ℕ). roomAfter o t room) ((λ i. gridText (gridOf (sym (r .2) i) (x i) (y i))) ∙ b .1),
@@ -92,11 +92,11 @@ module _ (g : Grid) where
         (p, same-answer (e ∙ written-whole p))
 
     pub grid-refused : {n k : ℕ} (lats lons : List ℤ) → refused n k ≡ writing g room
-        → (refused n k ≡ gridAgain g lats lons) × ((lats ≡ nodesAgain (refused n k) (g .lat) lats) × (lons ≡ nodesAgain (refused n k) (g .lon) lons))
+        → (refused n k ≡ gridAgain g (nodeLists lats lons)) × ((lats ≡ nodesAgain (refused n k) (g .nodes .lat) lats) × (lons ≡ nodesAgain (refused n k) (g .nodes .lon) lons))
     unfolding gridAgain nodesAgain writing
     grid-refused {n} {k} lats lons e = (go (verdict g) refl e, (refl, refl))
       where
-        go : (o : Outcome Unit) → verdict g ≡ o → refused n k ≡ writing g room → refused n k ≡ gridAgain g lats lons
+        go : (o : Outcome Unit) → verdict g ≡ o → refused n k ≡ writing g room → refused n k ≡ gridAgain g (nodeLists lats lons)
         go (answered tt) q e = absurd (answer-not-refusal (sym (e ∙ written-whole q)))
         go (refused m j) q e = rw q (same-refusal (e ∙ rw q))
 
@@ -118,9 +118,9 @@ module _ (g : Grid) where
       pub grid-again : (lats lons : List ℤ) {r : Outcome Header} {lats′ lons′ : List ℤ}
           → r ≡ mapAnswer headerOf (reading (take n after) lats lons)
           → lats′ ≡ latAfter (reading (take n after) lats lons) lats → lons′ ≡ lonAfter (reading (take n after) lats lons) lons
-          → (r ≡ gridAgain g lats lons) × ((lats′ ≡ nodesAgain r (g .lat) lats) × (lons′ ≡ nodesAgain r (g .lon) lons))
+          → (r ≡ gridAgain g (nodeLists lats lons)) × ((lats′ ≡ nodesAgain r (g .nodes .lat) lats) × (lons′ ≡ nodesAgain r (g .nodes .lon) lons))
       unfolding gridAgain nodesAgain latAfter lonAfter layout
-      grid-again lats lons {r} {lats′} {lons′} x y z = go (ltb (length lats) (nodeCount (g .header)) || ltb (length lons) (nodeCount (g .header))) refl
+      grid-again lats lons {r} {lats′} {lons′} x y z = go (ltb (nodeRoom (nodeLists lats lons)) (nodeCount (g .header))) refl
         where
           p : Passes g
           p = wrote .0
@@ -131,17 +131,17 @@ module _ (g : Grid) where
           read : o ≡ andThen (layout (gridOf (g .header) lats lons)) (answered (trimmed g))
           read = ap (λ (t : List ℕ). reading t lats lons) lent-text ∙ read-back g p lats lons
 
-          go : (d : Bool) → (ltb (length lats) (nodeCount (g .header)) || ltb (length lons) (nodeCount (g .header))) ≡ d
-              → (r ≡ gridAgain g lats lons) × ((lats′ ≡ nodesAgain r (g .lat) lats) × (lons′ ≡ nodesAgain r (g .lon) lons))
+          go : (d : Bool) → (ltb (nodeRoom (nodeLists lats lons)) (nodeCount (g .header))) ≡ d
+              → (r ≡ gridAgain g (nodeLists lats lons)) × ((lats′ ≡ nodesAgain r (g .nodes .lat) lats) × (lons′ ≡ nodesAgain r (g .nodes .lon) lons))
           go true q =
               let f : o ≡ refused 5 (nodeCount (g .header)) = read ∙ rw (good g p .unbroken, q) in
               let s : r ≡ refused 5 (nodeCount (g .header)) = x ∙ ap (mapAnswer headerOf) f in (
                 s ∙ rw (p, q),
-                (y ∙ ap (λ k. latAfter k lats) f ∙ ap (λ k. nodesAgain k (g .lat) lats) (sym s), z ∙ ap (λ k. lonAfter k lons) f ∙ ap (λ k. nodesAgain k (g .lon) lons) (sym s)),
+                (y ∙ ap (λ k. latAfter k lats) f ∙ ap (λ k. nodesAgain k (g .nodes .lat) lats) (sym s), z ∙ ap (λ k. lonAfter k lons) f ∙ ap (λ k. nodesAgain k (g .nodes .lon) lons) (sym s)),
               )
           go false q =
               let f : o ≡ answered (trimmed g) = read ∙ rw (good g p .unbroken, q) in
               let s : r ≡ answered (g .header) = x ∙ ap (mapAnswer headerOf) f in (
                 s ∙ rw (p, q),
-                (y ∙ ap (λ k. latAfter k lats) f ∙ ap (λ k. nodesAgain k (g .lat) lats) (sym s), z ∙ ap (λ k. lonAfter k lons) f ∙ ap (λ k. nodesAgain k (g .lon) lons) (sym s)),
+                (y ∙ ap (λ k. latAfter k lats) f ∙ ap (λ k. nodesAgain k (g .nodes .lat) lats) (sym s), z ∙ ap (λ k. lonAfter k lons) f ∙ ap (λ k. nodesAgain k (g .nodes .lon) lons) (sym s)),
               )

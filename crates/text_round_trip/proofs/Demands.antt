@@ -26,5 +26,5 @@ module _ (text : List ℕ) (lat lon : List ℤ) (g : Grid) (e : reading text lat
   at-most-48000 = subst (λ (t : List ℕ). length t ≤ 48000) text-returns (text-length g accepted-passes)
 
 -- the first rows × cols elements of its slices are its nodes
-pub grid-returns : (g : Grid) → Passes g → reading (gridText g) (g .lat) (g .lon) ≡ answered (trimmed g)
-grid-returns g p = read-back g p (g .lat) (g .lon) ∙ ap (λ (o : Outcome Unit). andThen o (answered (trimmed g))) (good g p .laid-out)
+pub grid-returns : (g : Grid) → Passes g → reading (gridText g) (g .nodes .lat) (g .nodes .lon) ≡ answered (trimmed g)
+grid-returns g p = read-back g p (g .nodes .lat) (g .nodes .lon) ∙ ap (λ (o : Outcome Unit). andThen o (answered (trimmed g))) (good g p .laid-out)

@@ -4,7 +4,7 @@ use mathlib.Core.Path.{_≡_, refl, sym, ap, _∙_}
 use mathlib.Core.Bool.{not, _||_}
 use mathlib.Core.List.{List, [], _∷_, _++_, append-assoc, append-nil}
 use native.Mathlib.Omega.{arith}
-use lib.ListN.{length, take}
+use lib.ListN.{take}
 use lib.Seq.{take-suc}
 use lib.IntN.{ℤ, pos}
 use Rattle.laws.specs.Bytes.{bytes}
@@ -13,7 +13,7 @@ use Rattle.laws.specs.Bounds.{own-size, widen}
 use Rattle.laws.specs.Logic.{eqZ, eqZ-true}
 use Rattle.figures.specs.Outcome.{Outcome, answered, andThen, refuseIf}
 use Rattle.decimal.specs.Spelling.{spell, Short}
-use Rattle.grid.specs.Grid.{Grid, gridOf, trimmed}
+use Rattle.grid.specs.Grid.{firstNodes, nodeRoom, Grid, gridOf, trimmed}
 use Rattle.grid.specs.Rules.{minus, nodeCount, shape}
 use Rattle.grid.specs.Nodes.{maxShift, node, beyondRange}
 use Rattle.grid.specs.Check.{layout, steepness, Passes}
@@ -60,37 +60,37 @@ module _ (g : Grid) (p : Passes g) where
   checked : Good g
   checked = good g p
 
-  roomy : (n ≤ length (g .lat)) × (n ≤ length (g .lon))
-  roomy = let l = laid g (checked .laid-out) in (l .room-lat, l .room-lon)
+  roomy : n ≤ nodeRoom (g .nodes)
+  roomy = laid g (checked .laid-out) .has-room
 
   node-here : (left k : ℕ) (t : List ℕ) → k < n
-      → nodes (g .header) (suc left) k (take k (g .lat)) (take k (g .lon)) (nodeLine (node (g .lat) k) (node (g .lon) k) ++ t) ≡ nodes (g .header) left (suc k) (take (suc k) (g .lat)) (take (suc k) (g .lon)) t
+      → nodes (g .header) (suc left) k (take k (g .nodes .lat)) (take k (g .nodes .lon)) (nodeLine (node (g .nodes .lat) k) (node (g .nodes .lon) k) ++ t) ≡ nodes (g .header) left (suc k) (take (suc k) (g .nodes .lat)) (take (suc k) (g .nodes .lon)) t
   unfolding nodes
   node-here left k t l =
-      ap (λ (q : List ℕ). field (9 + k) comma (bytes "node=") q next) (sym (node-text (node (g .lat) k) (node (g .lon) k) t))
-      ∙ field-here (9 + k) comma (bytes "node=") (spell (node (g .lon) k) ++ (newline ∷ t)) (node (g .lat) k) next (within-short maxShift of-lat (omega arith)) (omega arith)
-      ∙ word-here (9 + k) newline (λ b u. refuseIf (beyondRange (node (g .lat) k) || beyondRange b) 3 k (nodes (g .header) left (suc k) (take k (g .lat) ++ (node (g .lat) k ∷ [])) (take k (g .lon) ++ (b ∷ [])) u))
-      (node (g .lon) k) (within-short maxShift of-lon (omega arith)) (omega arith) t
-      ∙ rw (not-beyond of-lat, not-beyond of-lon, take-suc (g .lat) k (pos 0) (omega (arith, roomy)), take-suc (g .lon) k (pos 0) (omega (arith, roomy)))
+      ap (λ (q : List ℕ). field (9 + k) comma (bytes "node=") q next) (sym (node-text (node (g .nodes .lat) k) (node (g .nodes .lon) k) t))
+      ∙ field-here (9 + k) comma (bytes "node=") (spell (node (g .nodes .lon) k) ++ (newline ∷ t)) (node (g .nodes .lat) k) next (within-short maxShift of-lat (omega arith)) (omega arith)
+      ∙ word-here (9 + k) newline (λ b u. refuseIf (beyondRange (node (g .nodes .lat) k) || beyondRange b) 3 k (nodes (g .header) left (suc k) (take k (g .nodes .lat) ++ (node (g .nodes .lat) k ∷ [])) (take k (g .nodes .lon) ++ (b ∷ [])) u))
+      (node (g .nodes .lon) k) (within-short maxShift of-lon (omega arith)) (omega arith) t
+      ∙ rw (not-beyond of-lat, not-beyond of-lon, take-suc (g .nodes .lat) k (pos 0) (omega (arith, roomy)), take-suc (g .nodes .lon) k (pos 0) (omega (arith, roomy)))
     where
-      of-lat : Within maxShift (node (g .lat) k)
+      of-lat : Within maxShift (node (g .nodes .lat) k)
       of-lat = checked .of-lat .ranged .range k l
 
-      of-lon : Within maxShift (node (g .lon) k)
+      of-lon : Within maxShift (node (g .nodes .lon) k)
       of-lon = checked .of-lon .ranged .range k l
 
       next : ℤ → List ℕ → Outcome Grid
-      next a u = word (9 + k) newline [] u (λ b v. refuseIf (beyondRange a || beyondRange b) 3 k (nodes (g .header) left (suc k) (take k (g .lat) ++ (a ∷ [])) (take k (g .lon) ++ (b ∷ [])) v))
+      next a u = word (9 + k) newline [] u (λ b v. refuseIf (beyondRange a || beyondRange b) 3 k (nodes (g .header) left (suc k) (take k (g .nodes .lat) ++ (a ∷ [])) (take k (g .nodes .lon) ++ (b ∷ [])) v))
 
-  nodes-here : (k left : ℕ) → k + left ≡ n → (t : List ℕ) → nodes (g .header) n 0 [] [] (nodeLines (g .lat) (g .lon) k ++ t) ≡ nodes (g .header) left k (take k (g .lat)) (take k (g .lon)) t
+  nodes-here : (k left : ℕ) → k + left ≡ n → (t : List ℕ) → nodes (g .header) n 0 [] [] (nodeLines (g .nodes .lat) (g .nodes .lon) k ++ t) ≡ nodes (g .header) left k (take k (g .nodes .lat)) (take k (g .nodes .lon)) t
   unfolding nodeLines
   nodes-here zero left e t = ap (λ (j : ℕ). nodes (g .header) j 0 [] [] t) (omega arith)
   nodes-here (suc k) left e t =
-      ap (nodes (g .header) n 0 [] []) (append-assoc (nodeLines (g .lat) (g .lon) k) (nodeLine (node (g .lat) k) (node (g .lon) k)) t)
-      ∙ nodes-here k (suc left) (omega arith) (nodeLine (node (g .lat) k) (node (g .lon) k) ++ t)
+      ap (nodes (g .header) n 0 [] []) (append-assoc (nodeLines (g .nodes .lat) (g .nodes .lon) k) (nodeLine (node (g .nodes .lat) k) (node (g .nodes .lon) k)) t)
+      ∙ nodes-here k (suc left) (omega arith) (nodeLine (node (g .nodes .lat) k) (node (g .nodes .lon) k) ++ t)
       ∙ node-here left k t (omega arith)
 
-  end-here : nodes (g .header) 0 n (take n (g .lat)) (take n (g .lon)) (line (bytes "end=") (pos n ∷ [])) ≡ answered (trimmed g)
+  end-here : nodes (g .header) 0 n (take n (g .nodes .lat)) (take n (g .nodes .lon)) (line (bytes "end=") (pos n ∷ [])) ≡ answered (trimmed g)
   unfolding nodes ending
   end-here =
       ap (λ (q : List ℕ). field (9 + n) newline (bytes "end=") q next) (sym (append-nil (line (bytes "end=") (pos n ∷ []))))
@@ -98,15 +98,15 @@ module _ (g : Grid) (p : Passes g) where
       ∙ rw (eqZ-true {a = pos n} refl, passes-steepness (trimmed g) (verdict-front g ∙ p))
     where
       next : ℤ → List ℕ → Outcome Grid
-      next count u = refuseIf (not (eqZ count (pos n))) 1 (9 + n) (nothing (10 + n) u (andThen (steepness (shape (g .header)) (take n (g .lat)) (take n (g .lon))) (answered (trimmed g))))
+      next count u = refuseIf (not (eqZ count (pos n))) 1 (9 + n) (nothing (10 + n) u (andThen (steepness (shape (g .header)) (firstNodes n (g .nodes))) (answered (trimmed g))))
 
   -- the text of the grid, read into any two slices: the grid, where they have room for its nodes
   pub read-back : (lats lons : List ℤ) → reading (gridText g) lats lons ≡ andThen (layout (gridOf (g .header) lats lons)) (answered (trimmed g))
   unfolding reading gridText
   read-back lats lons =
       let k = checked .header in
-      let t = nodeLines (g .lat) (g .lon) n ++ line (bytes "end=") (pos n ∷ []) in
-      ap (λ (q : List ℕ). reading q lats lons) (append-assoc (headerText (g .header)) (nodeLines (g .lat) (g .lon) n) (line (bytes "end=") (pos n ∷ [])) ∙ sym (header-text (g .header) t))
+      let t = nodeLines (g .nodes .lat) (g .nodes .lon) n ++ line (bytes "end=") (pos n ∷ []) in
+      ap (λ (q : List ℕ). reading q lats lons) (append-assoc (headerText (g .header)) (nodeLines (g .nodes .lat) (g .nodes .lon) n) (line (bytes "end=") (pos n ∷ [])) ∙ sym (header-text (g .header) t))
       ∙ fixed-here 1 (bytes "from=NAD27\n") _ _
       ∙ fixed-here 2 (bytes "to=NAD83\n") _ _
       ∙ line-here 3 (bytes "south=") _ (g .header .south .0) _ (between-short 323940000 (k .south) (own-size (minus 323940000)) (own-size (pos 323940000)) (omega arith))

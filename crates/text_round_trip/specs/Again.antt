@@ -1,15 +1,14 @@
 -- Demand 2's two returns: "A sheet text that is accepted, read and written again is the same text. A sheet that passes the checks,
 -- written and read again, is the same sheet."
 use Prim.Native.Nat.{ℕ}
-use mathlib.Core.Bool.{_||_}
 use mathlib.Core.List.{List}
 use lib.Dec.{ltb}
-use lib.ListN.{length, take, replicate}
+use lib.ListN.{take, replicate}
 use lib.IntN.{ℤ, pos}
 use Rattle.figures.specs.Outcome.{Outcome, answered, refused, andThen, refuseIf}
 use Rattle.laws.specs.Over.{over}
 use Rattle.writing.specs.Writing.{inRoom}
-use Rattle.grid.specs.Grid.{Grid}
+use Rattle.grid.specs.Grid.{Nodes, nodeRoom, Grid}
 use Rattle.grid.specs.Rules.{nodeCount}
 use Rattle.grid.specs.Check.{verdict}
 use Rattle.grid.specs.declared.Header.{Header}
@@ -24,10 +23,10 @@ unfoldable pub textAgain : (text room : List ℕ) → Outcome ℕ
 textAgain text room = andThen (reading text scratch scratch) (inRoom text room)
 
 -- a grid that is refused is refused alike; one that passes comes back, where there is room for its nodes
-unfoldable pub gridAgain : Grid → (latRoom lonRoom : List ℤ) → Outcome Header
-gridAgain g latRoom lonRoom =
+unfoldable pub gridAgain : Grid → (slices : Nodes) → Outcome Header
+gridAgain g slices =
     let n = nodeCount (g .header) in
-    andThen (verdict g) (refuseIf (ltb (length latRoom) n || ltb (length lonRoom) n) 5 n (answered (g .header)))
+    andThen (verdict g) (refuseIf (ltb (nodeRoom slices) n) 5 n (answered (g .header)))
 
 -- the same nodes stand at the front of a slice, or after a refusal what it held
 unfoldable pub nodesAgain : Outcome Header → (nodes slice : List ℤ) → List ℤ

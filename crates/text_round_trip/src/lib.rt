@@ -4,7 +4,7 @@ use grid_reader::GridRead;
 use writing::Written;
 ghost use mathlib.Core.Path.{_≡_};
 ghost use Rattle.writing.specs.Writing.{roomAfter, writtenOutcome};
-ghost use Rattle.grid.specs.Grid.{gridOf};
+ghost use Rattle.grid.specs.Grid.{nodeLists, gridOf};
 ghost use Rattle.grid_reader.specs.Reading.{readOutcome};
 ghost use Rattle.text_round_trip.specs.Again.{textAgain, gridAgain, nodesAgain};
 
@@ -29,7 +29,7 @@ pub fn write_and_read<'a>(
     lats: &mut [i64],
     lons: &mut [i64],
 ) -> GridRead
-    ensures answer { λ r. ⌜ readOutcome r ≡ gridAgain (gridOf h (now (lat .entry)) (now (lon .entry))) (now (lats .entry)) (now (lons .entry)) ⌝ }
+    ensures answer { λ r. ⌜ readOutcome r ≡ gridAgain (gridOf h (now (lat .entry)) (now (lon .entry))) (nodeLists (now (lats .entry)) (now (lons .entry))) ⌝ }
     ensures lat { λ r. ⌜ now (lats .exit) ≡ nodesAgain (readOutcome r) (now (lat .entry)) (now (lats .entry)) ⌝ }
     ensures lon { λ r. ⌜ now (lons .exit) ≡ nodesAgain (readOutcome r) (now (lon .entry)) (now (lons .entry)) ⌝ }
 {

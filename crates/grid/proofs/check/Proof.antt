@@ -1,6 +1,7 @@
 use borrow.Author.Needs.{needs}
 use mathlib.Core.Path.{sym, ap, _∙_}
 use Rattle.figures.proofs.Laws.{refused-first, passed-first}
+use Rattle.grid.specs.Grid.{nodeLists}
 use Rattle.grid.specs.Check.{checkOutcome, nodesVerdict, verdict}
 use Rattle.grid.specs.declared.Shape.{Shape}
 use Rattle.grid.proofs.RuleLaws.{extent}
@@ -38,7 +39,7 @@ returns-2 c =
     let l = z .before .before .before in
     let a = l .before .args in
     c .check-nodes .ensures
-    ∙ ap (λ (s : Shape). nodesVerdict s (a .lat .now) (a .lon .now)) (z .shape .ensures)
+    ∙ ap (λ (s : Shape). nodesVerdict s (nodeLists (a .lat .now) (a .lon .now))) (z .shape .ensures)
     ∙ passed-first _ (ap checkOutcome (sym (z .before .enum-told .given .1)) ∙ l .check-layout .ensures)
 
 pub check-spec : {M : Type 1} → statement M

@@ -8,7 +8,7 @@ use Rattle.grid.specs.Rules.{brokenRule, shape}
 use Rattle.grid.specs.Needs.{Extent}
 use Rattle.grid.specs.declared.Shape.{Shape}
 use Rattle.grid.proofs.RuleLaws.{rules-hold, extent}
-use Rattle.grid.proofs.Passing.{rule-broken, short-lat, short-lon, room}
+use Rattle.grid.proofs.Passing.{rule-broken, short, room}
 use Rattle.grid.proofs.check_layout.Statement.{statement}
 use Rattle.grid.proofs.check_layout.Tie as tie
 use Rattle.grid.proofs.check_layout.Reads as reads
@@ -45,17 +45,17 @@ mul-n c = omega (arith, sizes (c .before))
 returns-2 : tie.Need-returns-2
 returns-2 c =
     let s = c .before .before in
-    ap (refused 5) (n-is s) ∙ short-lat (whole s) (unbroken s) (omega (arith, n-is s, c .if2 .taken))
+    ap (refused 5) (n-is s) ∙ short (whole s) (unbroken s) (omega (arith, n-is s, c .if2 .taken))
 
 returns-3 : tie.Need-returns-3
 returns-3 c =
     let s = c .before .before .before in
-    ap (refused 5) (n-is s) ∙ short-lon (whole s) (unbroken s) (omega (arith, n-is s, c .before .if2 .left)) (omega (arith, n-is s, c .if3 .taken))
+    ap (refused 5) (n-is s) ∙ short (whole s) (unbroken s) (omega (arith, n-is s, c .if3 .taken))
 
 returns-4 : tie.Need-returns-4
 returns-4 c =
     let s = c .before .before .before in
-    room (whole s) (unbroken s) (omega (arith, n-is s, c .before .if2 .left)) (omega (arith, n-is s, c .if3 .left))
+    room (whole s) (unbroken s) (omega (arith, n-is s, c .before .if2 .left, c .if3 .left))
 
 pub check-layout-spec : {M : Type 1} → statement M
 check-layout-spec =

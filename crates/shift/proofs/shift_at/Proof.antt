@@ -1,4 +1,5 @@
 use mathlib.Core.Path.{sym, ap, _∙_}
+use Rattle.grid.specs.Grid.{nodeLists}
 use Rattle.grid.specs.Check.{checkOutcome}
 use Rattle.grid.specs.declared.Shape.{Shape}
 use Rattle.grid.proofs.RuleLaws.{extent}
@@ -26,7 +27,7 @@ shift-on-requires c κs =
     let l = c .before .before .before in
     let e = sym (l .check-layout .ensures) ∙ ap checkOutcome (c .before .enum-told .given .1) in
     let d = laid _ e in
-    rw (c .shape .ensures) (extent (d .header), (d .room-lat, d .room-lon))
+    rw (c .shape .ensures) (extent (d .header), d .has-room)
 
 returns : tie.Need-returns
 unfolding shiftAt
@@ -39,7 +40,7 @@ returns-2 c =
     let l = z .before .before .before in
     let a = l .before .args in
     c .shift-on .ensures
-    ∙ ap (λ (s : Shape). shiftOn s (a .lat .now) (a .lon .now) (a .x) (a .y)) (z .shape .ensures)
+    ∙ ap (λ (s : Shape). shiftOn s (nodeLists (a .lat .now) (a .lon .now)) (a .x) (a .y)) (z .shape .ensures)
     ∙ passed-first _ (ap checkOutcome (sym (z .before .enum-told .given .1)) ∙ l .check-layout .ensures)
 
 pub shift-at-spec : {M : Type 1} → statement M

@@ -1,5 +1,6 @@
 use native.Mathlib.Omega.{arith}
 use mathlib.Core.Path.{ap, _∙_}
+use Rattle.grid.specs.Grid.{nodeLists}
 use Rattle.shift.specs.Shift.{shiftIn}
 use Rattle.shift.proofs.Cells.{edges-small, cell-of-point, cell-in}
 use Rattle.shift.proofs.Cases.{past-east, past-north, on-grid}
@@ -14,7 +15,7 @@ mul-if1 : tie.Need-mul-if1
 mul-if1 c = omega (arith, edges-small (c .before .before .pre .0))
 
 returns : tie.Need-returns
-returns c = let a = c .before .before .before .args in past-east (a .shape) (a .lat .now) (a .lon .now) (a .x) (a .y) (c .if1 .taken)
+returns c = let a = c .before .before .before .args in past-east (a .shape) (nodeLists (a .lat .now) (a .lon .now)) (a .x) (a .y) (c .if1 .taken)
 
 sub-if2 : tie.Need-sub-if2
 sub-if2 c = search needs
@@ -23,7 +24,7 @@ mul-if2 : tie.Need-mul-if2
 mul-if2 c = omega (arith, edges-small (c .before .before .before .before .before .pre .0))
 
 returns-2 : tie.Need-returns-2
-returns-2 c = let a = c .before .before .before .before .before .before .args in past-north (a .shape) (a .lat .now) (a .lon .now) (a .x) (a .y) (c .before .before .before .if1 .left) (c .if2 .taken)
+returns-2 c = let a = c .before .before .before .before .before .before .args in past-north (a .shape) (nodeLists (a .lat .now) (a .lon .now)) (a .x) (a .y) (c .before .before .before .if1 .left) (c .if2 .taken)
 
 cell-at-requires : tie.Need-cell-at-requires
 cell-at-requires c κs = search needs
@@ -37,8 +38,8 @@ returns-3 : tie.Need-returns-3
 returns-3 c =
     let a = c .before .before .before .before .before .before .before .before .args in
     c .shift-in .ensures
-    ∙ ap (shiftIn (a .shape) (a .lat .now) (a .lon .now)) (c .before .cell-at .ensures)
-    ∙ on-grid (a .shape) (a .lat .now) (a .lon .now) (a .x) (a .y) (c .before .before .before .before .before .if1 .left) (c .before .before .if2 .left)
+    ∙ ap (shiftIn (a .shape) (nodeLists (a .lat .now) (a .lon .now))) (c .before .cell-at .ensures)
+    ∙ on-grid (a .shape) (nodeLists (a .lat .now) (a .lon .now)) (a .x) (a .y) (c .before .before .before .before .before .if1 .left) (c .before .before .if2 .left)
 
 pub shift-on-spec : {M : Type 1} → statement M
 shift-on-spec =

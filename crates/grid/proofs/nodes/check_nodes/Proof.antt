@@ -10,22 +10,22 @@ first-out-of-range-requires : tie.Need-first-out-of-range-requires
 first-out-of-range-requires c κs = search needs
 
 returns : tie.Need-returns
-returns c = range-broken _ _ _ (c .before .first-out-of-range .ensures) (c .if1 .taken)
+returns c = range-broken _ _ (c .before .first-out-of-range .ensures) (c .if1 .taken)
 
 first-steep-requires : tie.Need-first-steep-requires
 first-steep-requires c κs =
     let s = c .before .before .before in
-    (s .pre, ranges (s .args .shape) _ _ (c .before .first-out-of-range .ensures) (c .if1 .left))
+    (s .pre, ranges (s .args .shape) _ (c .before .first-out-of-range .ensures) (c .if1 .left))
 
 returns-2 : tie.Need-returns-2
 returns-2 c =
     let e = c .before .before in
-    too-steep _ _ _ (e .before .first-out-of-range .ensures) (e .if1 .left) (c .before .first-steep .ensures) (c .if2 .taken)
+    too-steep _ _ (e .before .first-out-of-range .ensures) (e .if1 .left) (c .before .first-steep .ensures) (c .if2 .taken)
 
 returns-3 : tie.Need-returns-3
 returns-3 c =
     let e = c .before .before in
-    nodes-pass _ _ _ (e .before .first-out-of-range .ensures) (e .if1 .left) (c .before .first-steep .ensures) (c .if2 .left)
+    nodes-pass _ _ (e .before .first-out-of-range .ensures) (e .if1 .left) (c .before .first-steep .ensures) (c .if2 .left)
 
 pub check-nodes-spec : {M : Type 1} → statement M
 check-nodes-spec =

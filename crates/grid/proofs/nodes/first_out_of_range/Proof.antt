@@ -6,12 +6,13 @@ use Prim.Native.Nat.{ℕ, _-_, _≤_, _<_}
 use mathlib.Core.Path.{_≡_, sym, _∙_}
 use mathlib.Core.Bool.{false}
 use Rattle.laws.specs.First.{first-is}
+use Rattle.grid.specs.Grid.{nodeLists}
 use Rattle.grid.specs.Nodes.{outOfRange}
 use Rattle.grid.proofs.nodes.first_out_of_range.Statement.{statement}
 use Rattle.grid.proofs.nodes.first_out_of_range.Tie as tie
 
 abbrev Inv-loop : tie.InvT-loop
-Inv-loop lat lon n k₀ k = (k ≤ n) × ((j : ℕ) → j < k → outOfRange lat lon j ≡ false)
+Inv-loop lat lon n k₀ k = (k ≤ n) × ((j : ℕ) → j < k → outOfRange (nodeLists lat lon) j ≡ false)
 
 abbrev μ-loop : tie.MeasureT-loop
 μ-loop lat lon n k₀ k = n - k

@@ -6,12 +6,13 @@ use Prim.Native.Nat.{ℕ, _*_, _-_, _≤_, _<_}
 use mathlib.Core.Path.{_≡_, refl, sym, _∙_}
 use mathlib.Core.Bool.{false}
 use Rattle.laws.specs.First.{first-is}
+use Rattle.grid.specs.Grid.{nodeLists}
 use Rattle.grid.specs.Nodes.{steepAt}
 use Rattle.grid.proofs.nodes.first_steep.Statement.{statement}
 use Rattle.grid.proofs.nodes.first_steep.Tie as tie
 
 abbrev Inv-loop : tie.InvT-loop
-Inv-loop shape lat lon n k₀ k = (n ≡ shape .rows * shape .cols) × (k ≤ n) × ((j : ℕ) → j < k → steepAt shape lat lon j ≡ false)
+Inv-loop shape lat lon n k₀ k = (n ≡ shape .rows * shape .cols) × (k ≤ n) × ((j : ℕ) → j < k → steepAt shape (nodeLists lat lon) j ≡ false)
 
 abbrev μ-loop : tie.MeasureT-loop
 μ-loop shape lat lon n k₀ k = n - k
