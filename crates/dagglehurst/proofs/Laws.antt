@@ -11,6 +11,7 @@ use lib.IntN.{ℤ}
 use lib.ListN.{length, set}
 use Rattle.laws.specs.Over.{over}
 use Rattle.figures.specs.Outcome.{answered, refused}
+use Rattle.grid.specs.Grid.{nodeLists}
 use Rattle.grid_reader.specs.Reading.{reading}
 use Rattle.grid.specs.declared.Header.{Header}
 use Rattle.dagglehurst.specs.Header.{numbers, readingAll}
@@ -44,7 +45,7 @@ module _ (text : List ℕ) (header lat lon : List ℤ) where
   unfolding readingAll
   header-short h = rw (lt-ltb (length header) 6 h)
 
-  pub header-fits : 6 ≤ length header → readingAll text header lat lon ≡ reading text lat lon
+  pub header-fits : 6 ≤ length header → readingAll text header lat lon ≡ reading text (nodeLists lat lon)
   unfolding readingAll
   header-fits h = rw (le-ltb (length header) 6 h)
 

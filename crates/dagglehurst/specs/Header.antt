@@ -6,7 +6,7 @@ use lib.ListN.{length, getD}
 use lib.IntN.{ℤ, pos}
 use Rattle.laws.specs.Over.{over}
 use Rattle.figures.specs.Outcome.{Outcome, answered, refused, refuseIf}
-use Rattle.grid.specs.Grid.{header, Grid, gridOf}
+use Rattle.grid.specs.Grid.{header, nodeLists, Grid, gridOf}
 use Rattle.grid.specs.Rules.{nodesOf}
 use Rattle.grid.specs.declared.Header.{Header}
 use Rattle.grid_reader.specs.Reading.{reading}
@@ -28,7 +28,7 @@ numbers h = h .south .0 ∷ h .west .0 ∷ h .dlat ∷ h .dlon ∷ h .rows ∷ h
 -- reading, where a slice is lent for the header too: 8 with the six numbers needed, before the text is looked at, since nothing may
 -- be stored when that slice is too short
 unfoldable pub readingAll : (text : List ℕ) → (header lat lon : List ℤ) → Outcome Grid
-readingAll text header lat lon = refuseIf (ltb (length header) 6) 8 6 (reading text lat lon)
+readingAll text header lat lon = refuseIf (ltb (length header) 6) 8 6 (reading text (nodeLists lat lon))
 
 abbrev pub nodesIn : Grid → ℕ
 nodesIn g = nodesOf (g .header)

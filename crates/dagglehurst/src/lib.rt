@@ -14,11 +14,12 @@ use numbers::put_header;
 ghost use mathlib.Core.Path.{_≡_};
 ghost use Rattle.figures.specs.Outcome.{mapAnswer};
 ghost use Rattle.writing.specs.Writing.{roomAfter};
+ghost use Rattle.grid.specs.Grid.{nodeLists};
 ghost use Rattle.grid.specs.Rules.{nodesOf};
 ghost use Rattle.grid.specs.Check.{verdict};
 ghost use Rattle.grid_text.specs.Text.{gridText};
 ghost use Rattle.grid_text.specs.Writing.{writing};
-ghost use Rattle.grid_reader.specs.Reading.{latAfter, lonAfter};
+ghost use Rattle.grid_reader.specs.Reading.{nodesAfter};
 ghost use Rattle.requests.specs.Replies.{checkedAfresh};
 ghost use Rattle.listing.specs.Listing.{listing, listText};
 ghost use Rattle.dagglehurst.specs.Reply.{reply};
@@ -37,8 +38,7 @@ pub extern "C" fn dagglehurst_read(
 ) -> u64
     ensures answer { λ r. ⌜ r ≡ reply (mapAnswer nodesIn (readingAll (now (text .entry)) (now (header .entry)) (now (lat .entry)) (now (lon .entry)))) ⌝ }
     ensures header { λ r. ⌜ now (header .exit) ≡ headerAfter (readingAll (now (text .entry)) (now (header .entry)) (now (lat .entry)) (now (lon .entry))) (now (header .entry)) ⌝ }
-    ensures lat { λ r. ⌜ now (lat .exit) ≡ latAfter (readingAll (now (text .entry)) (now (header .entry)) (now (lat .entry)) (now (lon .entry))) (now (lat .entry)) ⌝ }
-    ensures lon { λ r. ⌜ now (lon .exit) ≡ lonAfter (readingAll (now (text .entry)) (now (header .entry)) (now (lat .entry)) (now (lon .entry))) (now (lon .entry)) ⌝ }
+    ensures nodes { λ r. ⌜ nodeLists (now (lat .exit)) (now (lon .exit)) ≡ nodesAfter (readingAll (now (text .entry)) (now (header .entry)) (now (lat .entry)) (now (lon .entry))) (nodeLists (now (lat .entry)) (now (lon .entry))) ⌝ }
 {
     if header.len() < numbers::HEADER {
         return reply::too_short(numbers::HEADER);

@@ -1,4 +1,5 @@
 pub mod RuleLaws
 pub mod NodeLaws
+pub mod NodeLists
 pub mod Passing
 pub mod Front

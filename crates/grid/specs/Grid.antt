@@ -1,8 +1,9 @@
 -- A grid, which document 01 calls a sheet: its header, and the shifts of its nodes.
 use Prim.Native.Nat.{ℕ, min}
-use mathlib.Core.List.{List}
-use lib.ListN.{length, take}
+use mathlib.Core.List.{List, [], _∷_, _++_}
+use lib.ListN.{length, take, set}
 use lib.IntN.{ℤ}
+use Rattle.laws.specs.Over.{over}
 use Rattle.grid.specs.Rules.{nodeCount}
 use Rattle.grid.specs.declared.Header.{Header}
 
@@ -20,9 +21,24 @@ pub record Nodes : Type 0 where
 abbrev pub nodeLists : (lat lon : List ℤ) → Nodes
 nodeLists lat lon = record { lat = lat; lon = lon }
 
+abbrev pub noNodes : Nodes
+noNodes = nodeLists [] []
+
+-- with one more behind the others
+abbrev pub addNode : Nodes → (lat lon : ℤ) → Nodes
+addNode ns a b = nodeLists (ns .lat ++ (a ∷ [])) (ns .lon ++ (b ∷ []))
+
+-- with these shifts at node `k`
+abbrev pub setNode : Nodes → (k : ℕ) → (lat lon : ℤ) → Nodes
+setNode ns k a b = nodeLists (set (ns .lat) k a) (set (ns .lon) k b)
+
 -- the first `n` of them
 abbrev pub firstNodes : (n : ℕ) → Nodes → Nodes
 firstNodes n ns = nodeLists (take n (ns .lat)) (take n (ns .lon))
+
+-- over the front of what stands in two lists
+abbrev pub overNodes : (ns slices : Nodes) → Nodes
+overNodes ns slices = nodeLists (over (ns .lat) (slices .lat)) (over (ns .lon) (slices .lon))
 
 -- how many nodes there is room for: the length of the shorter list
 abbrev pub nodeRoom : Nodes → ℕ

@@ -7,7 +7,6 @@ use mathlib.Core.Logic.{_⊎_, inl, inr}
 use native.Mathlib.Omega.{arith}
 use borrow.Author.Tests.{eqb-true, eqb-false, eq-eqb, ne-eqb, lt-ltb}
 use lib.Dec.{eqb}
-use lib.ListN.{length}
 use lib.IntN.{ℤ}
 use Rattle.laws.specs.Logic.{and-false}
 use Rattle.figures.specs.Refusal.{numberOf}
@@ -15,6 +14,7 @@ use Rattle.decimal.specs.Pushing.{none, number, pushed, valueOf}
 use Rattle.decimal.specs.declared.Number.{Number}
 use Rattle.decimal.specs.declared.Pushed.{Pushed}
 use Rattle.decimal.proofs.Spelled.{first-digit, more-digit}
+use Rattle.grid.specs.Grid.{Nodes, nodeRoom}
 use Rattle.grid_reader.specs.Scan.{numberSign, countAt, wholeAt, formAt, start, closed, leads, grown, numberStep, literalStep, step, fed, ended, finished}
 use Rattle.grid_reader.specs.declared.Scan.{Scan}
 use Rattle.grid_reader.specs.declared.Step.{Step}
@@ -162,30 +162,30 @@ module _ (room : ℕ) where
         go true m true q = count-forward m (eqb-true (s .at) countAt q)
 
   -- ---- every state goes on to a text of the form
-  goes : (fuel : ℕ) (s : Scan) (lat lon : List ℤ) → Reached room s → size s < fuel → (x : List ℕ) × OfForm (readFrom room s lat lon x)
+  goes : (fuel : ℕ) (s : Scan) (ns : Nodes) → Reached room s → size s < fuel → (x : List ℕ) × OfForm (readFrom room s ns x)
   unfolding fed
-  goes zero s lat lon o l = absurd (omega arith)
-  goes (suc fuel) s lat lon o l = ends (λ t a c p. goes fuel t a c p) (eqb (s .at) wholeAt) refl
+  goes zero s ns o l = absurd (omega arith)
+  goes (suc fuel) s ns o l = ends (λ t ms p. goes fuel t ms p) (eqb (s .at) wholeAt) refl
     where
-      on : ((t : Scan) (a c : List ℤ) → Reached room t → size t < fuel → (x : List ℕ) × OfForm (readFrom room t a c x))
-          → (y : Step) → Kept room y → Forward s o y → (x : List ℕ) × OfForm (onward room (s .node) lat lon y x)
-      on rest (Step.On t) p q = rest t lat lon p (omega arith)
-      on rest (Step.Node t a c) p q = rest t _ _ p (omega arith)
+      on : ((t : Scan) (ms : Nodes) → Reached room t → size t < fuel → (x : List ℕ) × OfForm (readFrom room t ms x))
+          → (y : Step) → Kept room y → Forward s o y → (x : List ℕ) × OfForm (onward room (s .node) ns y x)
+      on rest (Step.On t) p q = rest t ns p (omega arith)
+      on rest (Step.Node t a c) p q = rest t _ p (omega arith)
       on rest (Step.Refused w) p q = ([], refused-of-form (numberOf w) _ q)
 
-      ends : ((t : Scan) (a c : List ℤ) → Reached room t → size t < fuel → (x : List ℕ) × OfForm (readFrom room t a c x))
-          → (t : Bool) → eqb (s .at) wholeAt ≡ t → (x : List ℕ) × OfForm (readFrom room s lat lon x)
-      ends rest true e = ([], whole-of-form s lat lon e)
+      ends : ((t : Scan) (ms : Nodes) → Reached room t → size t < fuel → (x : List ℕ) × OfForm (readFrom room t ms x))
+          → (t : Bool) → eqb (s .at) wholeAt ≡ t → (x : List ℕ) × OfForm (readFrom room s ns x)
+      ends rest true e = ([], whole-of-form s ns e)
       ends rest false e =
           let f = forward s o (omega (arith, o .inside, eqb-false (s .at) wholeAt e)) in
           let g = on rest (step room s (f .0)) (reached-step room s o (f .0)) (f .1) in
-          (f .0 ∷ g .0, rw (one-byte room s lat lon (f .0) (g .0)) (g .1))
+          (f .0 ∷ g .0, rw (one-byte room s ns (f .0) (g .0)) (g .1))
 
-  module _ (lat lon : List ℤ) where
+  module _ (ns : Nodes) where
     -- as long as nothing was refused, some text that goes on so is of the form
-    pub goes-on : 2048 ≤ length lat → 2048 ≤ length lon → (w : List ℕ) (s : Scan) → fed room (Taken.On start) lat lon w .out ≡ Taken.On s
-        → (x : List ℕ) × OfForm (finished (fed room (Taken.On start) lat lon (w ++ x)))
-    goes-on l m w s e =
-        let f = fed room (Taken.On start) lat lon w in
-        let g = goes (suc (size s)) s (f .lat) (f .lon) (reached room lat lon l m w s e) (omega arith) in
-        (g .0, rw (fed-pieces room (Taken.On start) lat lon w (g .0), e) (g .1))
+    pub goes-on : 2048 ≤ nodeRoom ns → (w : List ℕ) (s : Scan) → fed room (Taken.On start) ns w .out ≡ Taken.On s
+        → (x : List ℕ) × OfForm (finished (fed room (Taken.On start) ns (w ++ x)))
+    goes-on l w s e =
+        let f = fed room (Taken.On start) ns w in
+        let g = goes (suc (size s)) s (f .nodes) (reached room ns l w s e) (omega arith) in
+        (g .0, rw (fed-pieces room (Taken.On start) ns w (g .0), e) (g .1))

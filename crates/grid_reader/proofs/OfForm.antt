@@ -2,15 +2,12 @@
 use Prim.Native.Nat.{ℕ}
 use mathlib.Core.Path.{_≡_, ap}
 use mathlib.Core.Bool.{Bool, true, false, not}
-use mathlib.Core.List.{List}
 use native.Mathlib.Omega.{arith}
 use lib.Dec.{ltb, eqb}
-use lib.ListN.{take}
-use lib.IntN.{ℤ}
 use Rattle.laws.specs.First.{first}
 use Rattle.figures.specs.Outcome.{Outcome, answered, refused, andThen, refuseIf}
 use Rattle.figures.proofs.Laws.{answer-not-refusal}
-use Rattle.grid.specs.Grid.{nodeRoom, Grid, gridOf}
+use Rattle.grid.specs.Grid.{Nodes, firstNodes, nodeRoom, Grid, gridWith}
 use Rattle.grid.specs.Rules.{brokenRule, shape, nodeCount}
 use Rattle.grid.specs.Nodes.{outOfRange, steepAt}
 use Rattle.grid.specs.Check.{layout, steepness, nodesVerdict, verdict}
@@ -47,6 +44,6 @@ verdict-of-form g =
     (refuseIf-of-form (ltb far n) 3 far (omega arith) (refuseIf-of-form (ltb steep n) 4 steep (omega arith) (answered-of-form tt)))
 
 -- a whole text is of the form
-pub whole-of-form : (s : Scan) (lat lon : List ℤ) → eqb (s .at) wholeAt ≡ true → OfForm (ended (Taken.On s) lat lon)
-whole-of-form s lat lon e =
-    rw e (andThen-of-form (verdict (gridOf (s .header) (take (s .count) lat) (take (s .count) lon))) (verdict-of-form _) (answered-of-form _))
+pub whole-of-form : (s : Scan) (ns : Nodes) → eqb (s .at) wholeAt ≡ true → OfForm (ended (Taken.On s) ns)
+whole-of-form s ns e =
+    rw e (andThen-of-form (verdict (gridWith (s .header) (firstNodes (s .count) ns))) (verdict-of-form _) (answered-of-form _))

@@ -3,9 +3,8 @@ use Prim.Native.Nat.{ℕ, suc, _≤_}
 use mathlib.Core.Path.{_≡_, refl, sym, ap, _∙_}
 use mathlib.Core.List.{List, [], _∷_, _++_, append-assoc, append-nil}
 use native.Mathlib.Omega.{arith}
-use lib.ListN.{length, set}
-use lib.IntN.{ℤ}
 use Rattle.figures.specs.declared.Refusal.{Refusal}
+use Rattle.grid.specs.Grid.{Nodes, setNode, nodeRoom}
 use Rattle.grid_reader.specs.Scan.{linesBefore, lineAt, start, step, Scanned, taken, fed}
 use Rattle.grid_reader.specs.SoFar.{filledForm, linesSoFar, soFar, newlines}
 use Rattle.grid_reader.specs.declared.Scan.{Scan}
@@ -19,56 +18,56 @@ use Rattle.grid_reader.proofs.NumberEnds.{number-ends}
 
 -- ---- a byte
 
-module _ (room : ℕ) (s : Scan) (o : Reached room s) (lat lon : List ℤ) (w : List ℕ) (r : Read s lat lon w) where
-  step-read : {b : ℕ} {z : Step} → Does room s b z → Kept (s .node) lat lon (w ++ (b ∷ [])) z
-  step-read (literal l n e) = rw e (literal-read s o lat lon w r n)
-  step-read {b} (digit m n e f) = digit-read s o lat lon w r b n e
-  step-read (closes m e g) = rw e (number-ends room (s .number) (s .header) (s .count) (s .node) (s .lat) lat lon w g (s .at) m o r)
+module _ (room : ℕ) (s : Scan) (o : Reached room s) (ns : Nodes) (w : List ℕ) (r : Read s ns w) where
+  step-read : {b : ℕ} {z : Step} → Does room s b z → Kept (s .node) ns (w ++ (b ∷ [])) z
+  step-read (literal l n e) = rw e (literal-read s o ns w r n)
+  step-read {b} (digit m n e f) = digit-read s o ns w r b n e
+  step-read (closes m e g) = rw e (number-ends room (s .number) (s .header) (s .count) (s .node) (s .lat) ns w g (s .at) m o r)
   step-read off-form = tt
 
 -- ---- a text
 
-read-start : (lat lon : List ℤ) → 2048 ≤ length lat → 2048 ≤ length lon → Read start lat lon []
+read-start : (ns : Nodes) → 2048 ≤ nodeRoom ns → Read start ns []
 unfolding soFar linesSoFar filledForm newlines linesBefore
-read-start lat lon l m = record { lats = l; lons = m; same = refl; lines = refl }
+read-start ns l = record { has-room = l; same = refl; lines = refl }
 
 refused-on : {r : Refusal} {s : Scan} → Taken.Refused r ≡ Taken.On s → ⊥
 refused-on e = let z : _≡_ {A = ℕ} 0 1 = cc in omega arith
 
 module _ (room : ℕ) where
   -- what is left of a text behind the step of a byte
-  abbrev rest : Scan → (lat lon : List ℤ) → Step → List ℕ → Scanned
-  rest s lat lon x t = let f = taken s lat lon x in fed room (f .out) (f .lat) (f .lon) t
+  abbrev rest : Scan → Nodes → Step → List ℕ → Scanned
+  rest s ns x t = let f = taken s ns x in fed room (f .out) (f .nodes) t
 
-  read-text : (s : Scan) (lat lon : List ℤ) (w t : List ℕ) (u : Scan) → Reached room s → Read s lat lon w → fed room (Taken.On s) lat lon t .out ≡ Taken.On u
-      → Reached room u × Read u (fed room (Taken.On s) lat lon t .lat) (fed room (Taken.On s) lat lon t .lon) (w ++ t)
+  read-text : (s : Scan) (ns : Nodes) (w t : List ℕ) (u : Scan) → Reached room s → Read s ns w → fed room (Taken.On s) ns t .out ≡ Taken.On u
+      → Reached room u × Read u (fed room (Taken.On s) ns t .nodes) (w ++ t)
   unfolding fed taken
-  read-text s lat lon w [] u o r e = let q : s ≡ u = cc in rw (append-nil, ← q) (o, r)
-  read-text s lat lon w (b ∷ t) u o r e =
-      rw (← append-assoc w (b ∷ []) t) (go (λ v x y. read-text v x y (w ++ (b ∷ [])) t u) (step room s b) (reached-step room s o b) (step-read room s o lat lon w r (step-does room s b)) e)
+  read-text s ns w [] u o r e = let q : s ≡ u = cc in rw (append-nil, ← q) (o, r)
+  read-text s ns w (b ∷ t) u o r e =
+      rw (← append-assoc w (b ∷ []) t) (go (λ v ms. read-text v ms (w ++ (b ∷ [])) t u) (step room s b) (reached-step room s o b) (step-read room s o ns w r (step-does room s b)) e)
     where
-      go : ((v : Scan) (x y : List ℤ) → Reached room v → Read v x y (w ++ (b ∷ [])) → fed room (Taken.On v) x y t .out ≡ Taken.On u
-          → Reached room u × Read u (fed room (Taken.On v) x y t .lat) (fed room (Taken.On v) x y t .lon) (w ++ (b ∷ []) ++ t))
-          → (z : Step) → Going room z → Kept (s .node) lat lon (w ++ (b ∷ [])) z → rest s lat lon z t .out ≡ Taken.On u
-          → Reached room u × Read u (rest s lat lon z t .lat) (rest s lat lon z t .lon) (w ++ (b ∷ []) ++ t)
-      go next (Step.On v) p k e = next v lat lon p k e
-      go next (Step.Node v x y) p k e = next v (set lat (s .node) x) (set lon (s .node) y) p k e
-      go next (Step.Refused q) p k e = absurd (refused-on (ap (λ (f : Scanned). f .out) (sym (fed-refused room q lat lon t)) ∙ e))
+      go : ((v : Scan) (ms : Nodes) → Reached room v → Read v ms (w ++ (b ∷ [])) → fed room (Taken.On v) ms t .out ≡ Taken.On u
+          → Reached room u × Read u (fed room (Taken.On v) ms t .nodes) (w ++ (b ∷ []) ++ t))
+          → (z : Step) → Going room z → Kept (s .node) ns (w ++ (b ∷ [])) z → rest s ns z t .out ≡ Taken.On u
+          → Reached room u × Read u (rest s ns z t .nodes) (w ++ (b ∷ []) ++ t)
+      go next (Step.On v) p k e = next v ns p k e
+      go next (Step.Node v x y) p k e = next v (setNode ns (s .node) x y) p k e
+      go next (Step.Refused q) p k e = absurd (refused-on (ap (λ (f : Scanned). f .out) (sym (fed-refused room q ns t)) ∙ e))
 
-  module _ (lat lon : List ℤ) (l : 2048 ≤ length lat) (m : 2048 ≤ length lon) (w : List ℕ) (s : Scan) (e : fed room (Taken.On start) lat lon w .out ≡ Taken.On s) where
-    read-start-text : Reached room s × Read s (fed room (Taken.On start) lat lon w .lat) (fed room (Taken.On start) lat lon w .lon) w
-    read-start-text = read-text start lat lon [] w s (reached-start room) (read-start lat lon l m) e
+  module _ (ns : Nodes) (l : 2048 ≤ nodeRoom ns) (w : List ℕ) (s : Scan) (e : fed room (Taken.On start) ns w .out ≡ Taken.On s) where
+    read-start-text : Reached room s × Read s (fed room (Taken.On start) ns w .nodes) w
+    read-start-text = read-text start ns [] w s (reached-start room) (read-start ns l) e
 
     pub reached : Reached room s
     reached = read-start-text .0
 
-    pub so-far : (soFar s (fed room (Taken.On start) lat lon w .lat) (fed room (Taken.On start) lat lon w .lon) ≡ w) × (lineAt (s .at) (s .node) ≡ suc (newlines w))
+    pub so-far : (soFar s (fed room (Taken.On start) ns w .nodes) ≡ w) × (lineAt (s .at) (s .node) ≡ suc (newlines w))
     so-far = (read-start-text .1 .same, read-start-text .1 .lines)
 
   -- two texts that come to the same state and the same nodes are one
-  pub determined : (lat lon : List ℤ) → 2048 ≤ length lat → 2048 ≤ length lon → (v w : List ℕ) (s : Scan)
-      → fed room (Taken.On start) lat lon v ≡ fed room (Taken.On start) lat lon w → fed room (Taken.On start) lat lon w .out ≡ Taken.On s → v ≡ w
-  determined lat lon l m v w s e f =
-      sym (so-far lat lon l m v s (ap (λ (x : Scanned). x .out) e ∙ f) .0)
-      ∙ ap (λ (x : Scanned). soFar s (x .lat) (x .lon)) e
-      ∙ so-far lat lon l m w s f .0
+  pub determined : (ns : Nodes) → 2048 ≤ nodeRoom ns → (v w : List ℕ) (s : Scan)
+      → fed room (Taken.On start) ns v ≡ fed room (Taken.On start) ns w → fed room (Taken.On start) ns w .out ≡ Taken.On s → v ≡ w
+  determined ns l v w s e f =
+      sym (so-far ns l v s (ap (λ (x : Scanned). x .out) e ∙ f) .0)
+      ∙ ap (λ (x : Scanned). soFar s (x .nodes)) e
+      ∙ so-far ns l w s f .0

@@ -6,6 +6,7 @@ use lib.Dec.{ltb, eqb}
 use lib.IntN.{ℤ, pos}
 use Rattle.decimal.specs.Spelling.{spell}
 use Rattle.decimal.specs.Pushing.{part}
+use Rattle.grid.specs.Grid.{Nodes}
 use Rattle.grid.specs.declared.Header.{Header}
 use Rattle.grid_text.specs.Text.{headerText, nodeLines}
 use Rattle.lines.specs.Text.{newline}
@@ -27,16 +28,16 @@ filledForm number a zero = []
 filledForm number a (suc i) = filledForm number a i ++ cond (eqb (formAt (a + i)) numberSign) (spell (number (a + i))) (formAt (a + i) ∷ [])
 
 -- in the header; in the line of a node; in the end line
-unfoldable pub linesSoFar : Scan → (lat lon : List ℤ) → List ℕ
-linesSoFar s lat lon =
+unfoldable pub linesSoFar : Scan → Nodes → List ℕ
+linesSoFar s ns =
     cond (ltb (s .at) nodeLineAt) (filledForm (numberAt (s .header)) 0 (s .at))
     (cond (ltb (s .at) endLineAt)
-    (headerText (s .header) ++ nodeLines lat lon (s .node) ++ filledForm (λ _. s .lat) nodeLineAt (s .at - nodeLineAt))
-    (headerText (s .header) ++ nodeLines lat lon (s .count) ++ filledForm (λ _. pos (s .count)) endLineAt (s .at - endLineAt)))
+    (headerText (s .header) ++ nodeLines ns (s .node) ++ filledForm (λ _. s .lat) nodeLineAt (s .at - nodeLineAt))
+    (headerText (s .header) ++ nodeLines ns (s .count) ++ filledForm (λ _. pos (s .count)) endLineAt (s .at - endLineAt)))
 
 -- and the number under way
-unfoldable pub soFar : Scan → (lat lon : List ℤ) → List ℕ
-soFar s lat lon = linesSoFar s lat lon ++ part (s .number)
+unfoldable pub soFar : Scan → Nodes → List ℕ
+soFar s ns = linesSoFar s ns ++ part (s .number)
 
 -- the newlines of a text
 unfoldable pub newlines : List ℕ → ℕ

@@ -10,7 +10,8 @@ use grid::Header;
 use slices::least;
 ghost use mathlib.Core.Path.{_≡_};
 ghost use Rattle.figures.specs.Outcome.{mapAnswer};
-ghost use Rattle.grid_reader.specs.Reading.{readOutcome, headerOf, reading, latAfter, lonAfter};
+ghost use Rattle.grid.specs.Grid.{nodeLists};
+ghost use Rattle.grid_reader.specs.Reading.{readOutcome, headerOf, reading, nodesAfter};
 ghost use Rattle.grid_reader.specs.Scan.{ended};
 ghost use Rattle.grid_reader.specs.Needs.{Stored};
 
@@ -48,9 +49,8 @@ pub enum GridRead {
 
 // Reads a grid's text. Its nodes go to the front of the two lent slices; a refused read leaves both as they were.
 pub fn read(text: &[u8], lat: &mut [i64], lon: &mut [i64]) -> GridRead
-    ensures answer { λ r. ⌜ readOutcome r ≡ mapAnswer headerOf (reading (now (text .entry)) (now (lat .entry)) (now (lon .entry))) ⌝ }
-    ensures lat { λ r. ⌜ now (lat .exit) ≡ latAfter (reading (now (text .entry)) (now (lat .entry)) (now (lon .entry))) (now (lat .entry)) ⌝ }
-    ensures lon { λ r. ⌜ now (lon .exit) ≡ lonAfter (reading (now (text .entry)) (now (lat .entry)) (now (lon .entry))) (now (lon .entry)) ⌝ }
+    ensures answer { λ r. ⌜ readOutcome r ≡ mapAnswer headerOf (reading (now (text .entry)) (nodeLists (now (lat .entry)) (now (lon .entry)))) ⌝ }
+    ensures nodes { λ r. ⌜ nodeLists (now (lat .exit)) (now (lon .exit)) ≡ nodesAfter (reading (now (text .entry)) (nodeLists (now (lat .entry)) (now (lon .entry)))) (nodeLists (now (lat .entry)) (now (lon .entry))) ⌝ }
 {
     let room = least(lat.len(), lon.len());
     let mut lats = [0i64; 2048];
@@ -69,10 +69,9 @@ fn finish<'a>(
     lat: &mut [i64],
     lon: &mut [i64],
 ) -> GridRead
-    requires { ⌜ Stored s (now lats) (now lons) (now lat) (now lon) ⌝ }
-    ensures answer { λ r. ⌜ readOutcome r ≡ mapAnswer headerOf (ended (Taken.On s) (now (lats .entry)) (now (lons .entry))) ⌝ }
-    ensures lat { λ r. ⌜ now (lat .exit) ≡ latAfter (ended (Taken.On s) (now (lats .entry)) (now (lons .entry))) (now (lat .entry)) ⌝ }
-    ensures lon { λ r. ⌜ now (lon .exit) ≡ lonAfter (ended (Taken.On s) (now (lats .entry)) (now (lons .entry))) (now (lon .entry)) ⌝ }
+    requires { ⌜ Stored s (nodeLists (now lats) (now lons)) (nodeLists (now lat) (now lon)) ⌝ }
+    ensures answer { λ r. ⌜ readOutcome r ≡ mapAnswer headerOf (ended (Taken.On s) (nodeLists (now (lats .entry)) (now (lons .entry)))) ⌝ }
+    ensures nodes { λ r. ⌜ nodeLists (now (lat .exit)) (now (lon .exit)) ≡ nodesAfter (ended (Taken.On s) (nodeLists (now (lats .entry)) (now (lons .entry)))) (nodeLists (now (lat .entry)) (now (lon .entry))) ⌝ }
 {
     if s.at != scanner::WHOLE {
         return GridRead::Refused(Refusal::Form(scanner::line_at(s.at, s.node)));

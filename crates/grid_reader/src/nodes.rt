@@ -5,6 +5,7 @@ use super::Taken;
 use super::scanner;
 use slices::put;
 ghost use mathlib.Core.Path.{_≡_};
+ghost use Rattle.grid.specs.Grid.{nodeLists};
 ghost use Rattle.grid_reader.specs.Scan.{start, step, taken, fed};
 ghost use Prim.Native.Nat.{_≤_};
 ghost use lib.ListN.{length};
@@ -12,9 +13,8 @@ ghost use Rattle.laws.specs.Over.{over};
 
 // Scans a text. The nodes go to the front of `lat` and `lon`.
 pub(crate) fn scan(text: &[u8], room: usize, lat: &mut [i64], lon: &mut [i64]) -> Taken
-    ensures out { λ r. ⌜ r ≡ fed room (Taken.On start) (now (lat .entry)) (now (lon .entry)) (now (text .entry)) .out ⌝ }
-    ensures lat { λ r. ⌜ now (lat .exit) ≡ fed room (Taken.On start) (now (lat .entry)) (now (lon .entry)) (now (text .entry)) .lat ⌝ }
-    ensures lon { λ r. ⌜ now (lon .exit) ≡ fed room (Taken.On start) (now (lat .entry)) (now (lon .entry)) (now (text .entry)) .lon ⌝ }
+    ensures out { λ r. ⌜ r ≡ fed room (Taken.On start) (nodeLists (now (lat .entry)) (now (lon .entry))) (now (text .entry)) .out ⌝ }
+    ensures nodes { λ r. ⌜ nodeLists (now (lat .exit)) (now (lon .exit)) ≡ fed room (Taken.On start) (nodeLists (now (lat .entry)) (now (lon .entry))) (now (text .entry)) .nodes ⌝ }
 {
     let mut at = Scan::new();
     let mut i: usize = 0;
@@ -34,9 +34,8 @@ pub(crate) fn scan(text: &[u8], room: usize, lat: &mut [i64], lon: &mut [i64]) -
 
 // One byte. A node whose line ends with it goes to its place.
 fn take(s: Scan, byte: u8, room: usize, lat: &mut [i64], lon: &mut [i64]) -> Taken
-    ensures out { λ r. ⌜ r ≡ taken s (now (lat .entry)) (now (lon .entry)) (step room s byte) .out ⌝ }
-    ensures lat { λ r. ⌜ now (lat .exit) ≡ taken s (now (lat .entry)) (now (lon .entry)) (step room s byte) .lat ⌝ }
-    ensures lon { λ r. ⌜ now (lon .exit) ≡ taken s (now (lat .entry)) (now (lon .entry)) (step room s byte) .lon ⌝ }
+    ensures out { λ r. ⌜ r ≡ taken s (nodeLists (now (lat .entry)) (now (lon .entry))) (step room s byte) .out ⌝ }
+    ensures nodes { λ r. ⌜ nodeLists (now (lat .exit)) (now (lon .exit)) ≡ taken s (nodeLists (now (lat .entry)) (now (lon .entry))) (step room s byte) .nodes ⌝ }
 {
     match scanner::advance(s, byte, room) {
         Step::On(next) => Taken::On(next),

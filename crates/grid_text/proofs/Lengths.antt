@@ -14,7 +14,7 @@ use Rattle.decimal.specs.Spelling.{spell}
 use Rattle.decimal.proofs.Lengths.{length-spell}
 use Rattle.lines.specs.Text.{line}
 use Rattle.lines.proofs.Lengths.{length-line, length-one, length-more}
-use Rattle.grid.specs.Grid.{Grid}
+use Rattle.grid.specs.Grid.{Nodes, Grid}
 use Rattle.grid.specs.Rules.{nodeCount}
 use Rattle.grid.specs.declared.Header.{Header}
 use Rattle.grid.specs.Nodes.{maxShift, node}
@@ -32,11 +32,11 @@ length-header : (h : Header) → length (headerText h) ≡ 20 + length (line (by
 unfolding headerText
 length-header h = simp length-append (omega arith)
 
-pub nodes-next : (lat lon : List ℤ) (k : ℕ) → nodeLines lat lon (k + 1) ≡ nodeLines lat lon k ++ line (bytes "node=") (node lat k ∷ node lon k ∷ [])
+pub nodes-next : (ns : Nodes) (k : ℕ) → nodeLines ns (k + 1) ≡ nodeLines ns k ++ line (bytes "node=") (node (ns .lat) k ∷ node (ns .lon) k ∷ [])
 unfolding nodeLines nodeLine
-nodes-next lat lon k = rw add-one
+nodes-next ns k = rw add-one
 
-length-grid : (g : Grid) → length (gridText g) ≡ length (headerText (g .header)) + length (nodeLines (g .nodes .lat) (g .nodes .lon) (nodeCount (g .header))) + length (line (bytes "end=") (pos (nodeCount (g .header)) ∷ []))
+length-grid : (g : Grid) → length (gridText g) ≡ length (headerText (g .header)) + length (nodeLines (g .nodes) (nodeCount (g .header))) + length (line (bytes "end=") (pos (nodeCount (g .header)) ∷ []))
 unfolding gridText
 length-grid g = simp length-append (omega arith)
 
@@ -46,12 +46,12 @@ length-grid g = simp length-append (omega arith)
 shift-length : {x : ℤ} → Within maxShift x → length (spell x) ≤ 8
 shift-length {x} h = length-spell x 7 (omega arith) (omega arith)
 
-nodes-length : (lat lon : List ℤ) (n k : ℕ) → InRange n lat → InRange n lon → k ≤ n → length (nodeLines lat lon k) ≤ 23 * k
+nodes-length : (ns : Nodes) (n k : ℕ) → InRange n (ns .lat) → InRange n (ns .lon) → k ≤ n → length (nodeLines ns k) ≤ 23 * k
 unfolding nodeLines
-nodes-length lat lon n zero p q h = omega arith
-nodes-length lat lon n (suc k) p q h =
+nodes-length ns n zero p q h = omega arith
+nodes-length ns n (suc k) p q h =
     simp length-append
-    (omega (arith, nodes-length lat lon n k p q (omega arith), length-node (node lat k) (node lon k), shift-length (p .range k h), shift-length (q .range k h)))
+    (omega (arith, nodes-length ns n k p q (omega arith), length-node (node (ns .lat) k) (node (ns .lon) k), shift-length (p .range k h), shift-length (q .range k h)))
 
 -- no number of the header has more than 9 digits
 number-length : {lo x hi : ℤ} → Between lo x hi → T (leb (natAbs lo) 999999999) → T (leb (natAbs hi) 999999999) → length (spell x) ≤ 10
@@ -90,7 +90,7 @@ text-length g e =
       length-grid g,
       header-length (ok .header),
       m,
-      nodes-length (g .nodes .lat) (g .nodes .lon) n n (ok .of-lat .ranged) (ok .of-lon .ranged) (omega arith),
+      nodes-length (g .nodes) n n (ok .of-lat .ranged) (ok .of-lon .ranged) (omega arith),
       one-number (bytes "end=") (pos n),
       length-spell (pos n) 4 (omega arith) (omega arith),
     )

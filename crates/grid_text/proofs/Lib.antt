@@ -1,2 +1,3 @@
+pub mod NodeLines
 pub mod Lengths
 pub mod Answers

@@ -4,7 +4,7 @@ use mathlib.Core.List.{List, [], _∷_, _++_}
 use lib.IntN.{ℤ, pos}
 use Rattle.laws.specs.Bytes.{bytes}
 use Rattle.lines.specs.Text.{line}
-use Rattle.grid.specs.Grid.{Grid}
+use Rattle.grid.specs.Grid.{Nodes, Grid}
 use Rattle.grid.specs.Rules.{nodeCount}
 use Rattle.grid.specs.Nodes.{node}
 use Rattle.grid.specs.declared.Header.{Header}
@@ -25,10 +25,10 @@ unfoldable pub nodeLine : (lat lon : ℤ) → List ℕ
 nodeLine a b = line (bytes "node=") (a ∷ b ∷ [])
 
 -- the lines of the first k nodes
-unfoldable pub nodeLines : (lat lon : List ℤ) → (k : ℕ) → List ℕ
-nodeLines lat lon zero = []
-nodeLines lat lon (suc k) = nodeLines lat lon k ++ nodeLine (node lat k) (node lon k)
+unfoldable pub nodeLines : Nodes → (k : ℕ) → List ℕ
+nodeLines ns zero = []
+nodeLines ns (suc k) = nodeLines ns k ++ nodeLine (node (ns .lat) k) (node (ns .lon) k)
 
 -- "`end=` and the number of nodes"
 unfoldable pub gridText : Grid → List ℕ
-gridText g = headerText (g .header) ++ nodeLines (g .nodes .lat) (g .nodes .lon) (nodeCount (g .header)) ++ line (bytes "end=") (pos (nodeCount (g .header)) ∷ [])
+gridText g = headerText (g .header) ++ nodeLines (g .nodes) (nodeCount (g .header)) ++ line (bytes "end=") (pos (nodeCount (g .header)) ∷ [])

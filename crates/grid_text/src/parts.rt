@@ -7,7 +7,7 @@ use writing::write_text;
 ghost use mathlib.Core.Path.{_≡_};
 ghost use Rattle.writing.specs.Writing.{Put, Added};
 ghost use Rattle.lines.specs.Text.{line};
-ghost use Rattle.grid.specs.Grid.{gridOf};
+ghost use Rattle.grid.specs.Grid.{nodeLists, gridOf};
 ghost use Rattle.grid.specs.Rules.{brokenRule};
 ghost use Rattle.grid_text.specs.Text.{headerText, nodeLines, gridText};
 
@@ -38,7 +38,7 @@ fn put_header(h: Header, room: &mut [u8]) -> usize
 
 // The lines of the first n nodes.
 fn put_nodes<'a>(lat: &'a [i64], lon: &'a [i64], n: usize, room: &mut [u8]) -> usize
-    ensures { λ r. ⌜ Put (nodeLines (now (lat .entry)) (now (lon .entry)) n) (now (room .entry)) (now (room .exit)) r ⌝ }
+    ensures { λ r. ⌜ Put (nodeLines (nodeLists (now (lat .entry)) (now (lon .entry))) n) (now (room .entry)) (now (room .exit)) r ⌝ }
 {
     let mut at: usize = 0;
     let mut k: usize = 0;

@@ -1,44 +1,30 @@
 -- A text that is accepted is the text of the grid that was read, and that grid passes the checks.
-use Prim.Native.Nat.{ℕ, zero, suc, _+_, _≤_}
+use Prim.Native.Nat.{ℕ, zero, suc, _+_}
 use mathlib.Core.Path.{_≡_, refl, sym, ap, _∙_, subst}
 use mathlib.Core.Bool.{not, _||_}
 use mathlib.Core.List.{List, [], _∷_, _++_, append-assoc, append-nil}
 use native.Mathlib.Omega.{arith}
 use native.Mathlib.Numerals.{add-one}
 use borrow.Author.Tests.{not-false}
-use lib.ListN.{length, List·getD-append}
-use lib.Seq.{getD-at}
 use lib.IntN.{ℤ, pos}
 use Rattle.laws.specs.Bytes.{bytes}
 use Rattle.laws.specs.Logic.{eqZ, eqZ-holds}
 use Rattle.figures.specs.Outcome.{Outcome, answered, andThen, refuseIf}
 use Rattle.figures.proofs.Laws.{answer-not-refusal, both-answered, not-refused, same-answer}
 use Rattle.decimal.specs.Spelling.{spell}
-use Rattle.grid.specs.Grid.{header, nodeLists, Grid, gridOf}
+use Rattle.grid.specs.Grid.{header, Nodes, noNodes, addNode, Grid, gridWith}
 use Rattle.grid.specs.Rules.{brokenRule, shape, nodeCount}
 use Rattle.grid.specs.Nodes.{beyondRange}
 use Rattle.grid.specs.Check.{layout, steepness, Passes}
 use Rattle.grid.specs.declared.Header.{Header}
+use Rattle.grid.proofs.NodeLists.{Counted}
 use Rattle.grid.proofs.Passing.{laid}
 use Rattle.lines.specs.Text.{newline, listed, line}
 use Rattle.grid_text.specs.Text.{headerText, nodeLine, nodeLines, gridText}
+use Rattle.grid_text.proofs.NodeLines.{lines-more}
 use Rattle.grid_reader.specs.Reading.{word, field, comma, nothing, ending, nodes, reading}
 use Rattle.grid_reader.proofs.NodesSoFar.{NodesSoFar, no-node, one-node, left-to-judge}
 use Rattle.text_round_trip.proofs.Parsing.{fixed-there, word-there}
-
--- ---- the lines of the nodes
-
--- the lines of the first k nodes are told by the first k nodes
-pub lines-front : (xs ys us vs : List ℤ) (k : ℕ) → k ≤ length xs → k ≤ length ys → nodeLines (xs ++ us) (ys ++ vs) k ≡ nodeLines xs ys k
-unfolding nodeLines
-lines-front xs ys us vs zero l m = refl
-lines-front xs ys us vs (suc k) l m =
-    rw (lines-front xs ys us vs k (omega arith) (omega arith), List·getD-append xs us (pos 0) k (omega arith), List·getD-append ys vs (pos 0) k (omega arith))
-
-lines-more : (xs ys : List ℤ) (a b : ℤ) (k : ℕ) → length xs ≡ k → length ys ≡ k → nodeLines (xs ++ (a ∷ [])) (ys ++ (b ∷ [])) (suc k) ≡ nodeLines xs ys k ++ nodeLine a b
-unfolding nodeLines
-lines-more xs ys a b k e f =
-    rw (lines-front xs ys (a ∷ []) (b ∷ []) k (omega (arith, e)) (omega (arith, f)), getD-at xs a [] (pos 0) k e, getD-at ys b [] (pos 0) k f)
 
 -- ---- a key and a number
 
@@ -65,8 +51,7 @@ module _ {A : Type 0} {g : A} where
 pub record Accepted (text : List ℕ) (g : Grid) : Type 0 where
   pub same : text ≡ gridText g
   pub passes : Passes g
-  pub lats : length (g .nodes .lat) ≡ nodeCount (g .header)
-  pub lons : length (g .nodes .lon) ≡ nodeCount (g .header)
+  pub counted : Counted (nodeCount (g .header)) (g .nodes)
 
 nothing-there : {A : Type 0} {g : A} (n : ℕ) (t : List ℕ) (o : Outcome A) → nothing n t o ≡ answered g → (t ≡ []) × (o ≡ answered g)
 nothing-there n [] o e = (refl, e)
@@ -81,48 +66,48 @@ node-text a b u = go (bytes "node=") (spell a) (bytes ",") (spell b) (bytes "\n"
 
 module _ (h : Header) where
   -- what was read of the nodes, and the rest of the text
-  abbrev Rest : (k : ℕ) (xs ys : List ℤ) → List ℕ → Grid → Type 0
-  Rest k xs ys t g =
-      (g .header ≡ h) × (nodeLines xs ys k ++ t ≡ nodeLines (g .nodes .lat) (g .nodes .lon) (nodeCount h) ++ line (bytes "end=") (pos (nodeCount h) ∷ []))
-      × Passes g × (length (g .nodes .lat) ≡ nodeCount h) × (length (g .nodes .lon) ≡ nodeCount h)
+  abbrev Rest : (k : ℕ) → Nodes → List ℕ → Grid → Type 0
+  Rest k ns t g =
+      (g .header ≡ h) × (nodeLines ns k ++ t ≡ nodeLines (g .nodes) (nodeCount h) ++ line (bytes "end=") (pos (nodeCount h) ∷ []))
+      × Passes g × Counted (nodeCount h) (g .nodes)
 
   module _ (unbroken : brokenRule h ≡ 0) where
-    end-there : (xs ys : List ℤ) (t : List ℕ) (g : Grid) → NodesSoFar (nodeCount h) xs ys → ending h xs ys t ≡ answered g → Rest (nodeCount h) xs ys t g
+    end-there : (ns : Nodes) (t : List ℕ) (g : Grid) → NodesSoFar (nodeCount h) ns → ending h ns t ≡ answered g → Rest (nodeCount h) ns t g
     unfolding ending
-    end-there xs ys t g s e =
+    end-there ns t g s e =
         let n = nodeCount h in
-        let grid = gridOf h xs ys in
-        let last = andThen (steepness (shape h) (nodeLists xs ys)) (answered grid) in
+        let grid = gridWith h ns in
+        let last = andThen (steepness (shape h) ns) (answered grid) in
         let f = line-there (9 + n) (bytes "end=") t (λ count u. refuseIf (not (eqZ count (pos n))) 1 (9 + n) (nothing (10 + n) u last)) e in
         let r = not-refused (not (eqZ (f .0) (pos n))) 1 (9 + n) (nothing (10 + n) (f .1) last) (f .3) in
         let c : f .0 ≡ pos n = eqZ-holds (not-false (eqZ (f .0) (pos n)) (r .0)) in
         let o = nothing-there (10 + n) (f .1) last (r .1) in
-        let v = both-answered (steepness (shape h) (nodeLists xs ys)) (answered grid) (o .1) in
+        let v = both-answered (steepness (shape h) ns) (answered grid) (o .1) in
         let t-is : t ≡ line (bytes "end=") (pos n ∷ []) = f .2 ∙ (λ i. line (bytes "end=") (c i ∷ []) ++ o .0 i) ∙ append-nil (line (bytes "end=") (pos n ∷ [])) in
-        subst (λ (q : Grid). Rest (nodeCount h) xs ys t q) (same-answer (v .1))
-        (refl, ap (λ (q : List ℕ). nodeLines xs ys n ++ q) t-is, left-to-judge h xs ys unbroken s ∙ v .0 .1, s .lats, s .lons)
+        subst (λ (q : Grid). Rest (nodeCount h) ns t q) (same-answer (v .1))
+        (refl, ap (λ (q : List ℕ). nodeLines ns n ++ q) t-is, left-to-judge h ns unbroken s ∙ v .0 .1, s .counted)
 
-    nodes-there : (left k : ℕ) (xs ys : List ℤ) (t : List ℕ) (g : Grid) → k + left ≡ nodeCount h → NodesSoFar k xs ys
-        → nodes h left k xs ys t ≡ answered g → Rest k xs ys t g
+    nodes-there : (left k : ℕ) (ns : Nodes) (t : List ℕ) (g : Grid) → k + left ≡ nodeCount h → NodesSoFar k ns
+        → nodes h left k ns t ≡ answered g → Rest k ns t g
     unfolding nodes
-    nodes-there zero k xs ys t g s m e =
+    nodes-there zero k ns t g s m e =
         let q : k ≡ nodeCount h = omega arith in
-        subst (λ (j : ℕ). Rest j xs ys t g) (sym q) (end-there xs ys t g (subst (λ (j : ℕ). NodesSoFar j xs ys) q m) e)
-    nodes-there (suc left) k xs ys t g s m e =
+        subst (λ (j : ℕ). Rest j ns t g) (sym q) (end-there ns t g (subst (λ (j : ℕ). NodesSoFar j ns) q m) e)
+    nodes-there (suc left) k ns t g s m e =
         let f = field-there (9 + k) comma (bytes "node=") t
-        (λ a u. word (9 + k) newline [] u (λ b v. refuseIf (beyondRange a || beyondRange b) 3 k (nodes h left (suc k) (xs ++ (a ∷ [])) (ys ++ (b ∷ [])) v))) e in
+        (λ a u. word (9 + k) newline [] u (λ b v. refuseIf (beyondRange a || beyondRange b) 3 k (nodes h left (suc k) (addNode ns a b) v))) e in
         let w = word-there (9 + k) newline [] (f .1)
-        (λ b v. refuseIf (beyondRange (f .0) || beyondRange b) 3 k (nodes h left (suc k) (xs ++ (f .0 ∷ [])) (ys ++ (b ∷ [])) v)) (f .3) in
+        (λ b v. refuseIf (beyondRange (f .0) || beyondRange b) 3 k (nodes h left (suc k) (addNode ns (f .0) b) v)) (f .3) in
         let a = f .0 in
         let b = w .0 in
         let u = w .1 in
-        let j = not-refused (beyondRange a || beyondRange b) 3 k (nodes h left (suc k) (xs ++ (a ∷ [])) (ys ++ (b ∷ [])) u) (w .4) in
-        let r = nodes-there left (suc k) (xs ++ (a ∷ [])) (ys ++ (b ∷ [])) u g (omega arith) (one-node m a b (add-one k) (j .0)) (j .1) in
-        let l : nodeLines xs ys k ++ t ≡ nodeLines (xs ++ (a ∷ [])) (ys ++ (b ∷ [])) (suc k) ++ u =
-        ap (λ (q : List ℕ). nodeLines xs ys k ++ q) (f .2 ∙ ap (λ (q : List ℕ). bytes "node=" ++ (spell a ++ (comma ∷ q))) (w .2) ∙ node-text a b u)
-        ∙ sym (append-assoc (nodeLines xs ys k) (nodeLine a b) u)
-        ∙ ap (λ (q : List ℕ). q ++ u) (sym (lines-more xs ys a b k (m .lats) (m .lons))) in
-        (r .0, l ∙ r .1, r .2, r .3, r .4)
+        let j = not-refused (beyondRange a || beyondRange b) 3 k (nodes h left (suc k) (addNode ns a b) u) (w .4) in
+        let r = nodes-there left (suc k) (addNode ns a b) u g (omega arith) (one-node m a b (add-one k) (j .0)) (j .1) in
+        let l : nodeLines ns k ++ t ≡ nodeLines (addNode ns a b) (suc k) ++ u =
+        ap (λ (q : List ℕ). nodeLines ns k ++ q) (f .2 ∙ ap (λ (q : List ℕ). bytes "node=" ++ (spell a ++ (comma ∷ q))) (w .2) ∙ node-text a b u)
+        ∙ sym (append-assoc (nodeLines ns k) (nodeLine a b) u)
+        ∙ ap (λ (q : List ℕ). q ++ u) (sym (lines-more (m .counted) a b)) in
+        (r .0, l ∙ r .1, r .2, r .3)
 
 -- ---- the header
 
@@ -141,22 +126,21 @@ header-text h t =
 zero-left : (n : ℕ) → 0 + n ≡ n
 zero-left n = omega arith
 
-whole : (h : Header) (text rest : List ℕ) (g : Grid) → text ≡ headerText h ++ rest → Rest h 0 [] [] rest g → Accepted text g
+whole : (h : Header) (text rest : List ℕ) (g : Grid) → text ≡ headerText h ++ rest → Rest h 0 noNodes rest g → Accepted text g
 unfolding gridText nodeLines
 whole h text rest g e r =
     record {
       same =
           e ∙ ap (λ (t : List ℕ). headerText h ++ t) (r .1)
-          ∙ sym (append-assoc (headerText h) (nodeLines (g .nodes .lat) (g .nodes .lon) (nodeCount h)) (line (bytes "end=") (pos (nodeCount h) ∷ [])))
-          ∙ ap (λ (k : Header). headerText k ++ nodeLines (g .nodes .lat) (g .nodes .lon) (nodeCount k) ++ line (bytes "end=") (pos (nodeCount k) ∷ [])) (sym (r .0));
+          ∙ sym (append-assoc (headerText h) (nodeLines (g .nodes) (nodeCount h)) (line (bytes "end=") (pos (nodeCount h) ∷ [])))
+          ∙ ap (λ (k : Header). headerText k ++ nodeLines (g .nodes) (nodeCount k) ++ line (bytes "end=") (pos (nodeCount k) ∷ [])) (sym (r .0));
       passes = r .2;
-      lats = r .3 ∙ ap nodeCount (sym (r .0));
-      lons = r .4 ∙ ap nodeCount (sym (r .0));
+      counted = subst (λ (k : Header). Counted (nodeCount k) (g .nodes)) (sym (r .0)) (r .3);
     }
 
-pub accepted : (text : List ℕ) (lat lon : List ℤ) (g : Grid) → reading text lat lon ≡ answered g → Accepted text g
+pub accepted : (text : List ℕ) (slices : Nodes) (g : Grid) → reading text slices ≡ answered g → Accepted text g
 unfolding reading
-accepted text lat lon g e =
+accepted text slices g e =
     let l₁ = fixed-there 1 (bytes "from=NAD27\n") text _ e in
     let l₂ = fixed-there 2 (bytes "to=NAD83\n") (l₁ .0) _ (l₁ .2) in
     let l₃ = line-there 3 (bytes "south=") (l₂ .0) _ (l₂ .2) in
@@ -166,8 +150,8 @@ accepted text lat lon g e =
     let l₇ = line-there 7 (bytes "rows=") (l₆ .1) _ (l₆ .3) in
     let l₈ = line-there 8 (bytes "cols=") (l₇ .1) _ (l₇ .3) in
     let h = header (l₃ .0) (l₄ .0) (l₅ .0) (l₆ .0) (l₇ .0) (l₈ .0) in
-    let b = both-answered (layout (gridOf h lat lon)) (nodes h (nodeCount h) 0 [] [] (l₈ .1)) (l₈ .3) in
-    let r = nodes-there h (laid (gridOf h lat lon) (b .0 .1) .unbroken) (nodeCount h) 0 [] [] (l₈ .1) g (zero-left (nodeCount h)) no-node (b .1) in
+    let b = both-answered (layout (gridWith h slices)) (nodes h (nodeCount h) 0 noNodes (l₈ .1)) (l₈ .3) in
+    let r = nodes-there h (laid (gridWith h slices) (b .0 .1) .unbroken) (nodeCount h) 0 noNodes (l₈ .1) g (zero-left (nodeCount h)) no-node (b .1) in
     let t-is : text ≡ headerText h ++ (l₈ .1) =
     l₁ .1
     ∙ ap (λ (t : List ℕ). bytes "from=NAD27\n" ++ t)

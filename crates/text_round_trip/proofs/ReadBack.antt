@@ -4,7 +4,6 @@ use mathlib.Core.Path.{_≡_, refl, sym, ap, _∙_}
 use mathlib.Core.Bool.{not, _||_}
 use mathlib.Core.List.{List, [], _∷_, _++_, append-assoc, append-nil}
 use native.Mathlib.Omega.{arith}
-use lib.ListN.{take}
 use lib.Seq.{take-suc}
 use lib.IntN.{ℤ, pos}
 use Rattle.laws.specs.Bytes.{bytes}
@@ -13,7 +12,7 @@ use Rattle.laws.specs.Bounds.{own-size, widen}
 use Rattle.laws.specs.Logic.{eqZ, eqZ-true}
 use Rattle.figures.specs.Outcome.{Outcome, answered, andThen, refuseIf}
 use Rattle.decimal.specs.Spelling.{spell, Short}
-use Rattle.grid.specs.Grid.{firstNodes, nodeRoom, Grid, gridOf, trimmed}
+use Rattle.grid.specs.Grid.{Nodes, noNodes, addNode, firstNodes, nodeRoom, Grid, gridWith, trimmed}
 use Rattle.grid.specs.Rules.{minus, nodeCount, shape}
 use Rattle.grid.specs.Nodes.{maxShift, node, beyondRange}
 use Rattle.grid.specs.Check.{layout, steepness, Passes}
@@ -64,12 +63,12 @@ module _ (g : Grid) (p : Passes g) where
   roomy = laid g (checked .laid-out) .has-room
 
   node-here : (left k : ℕ) (t : List ℕ) → k < n
-      → nodes (g .header) (suc left) k (take k (g .nodes .lat)) (take k (g .nodes .lon)) (nodeLine (node (g .nodes .lat) k) (node (g .nodes .lon) k) ++ t) ≡ nodes (g .header) left (suc k) (take (suc k) (g .nodes .lat)) (take (suc k) (g .nodes .lon)) t
+      → nodes (g .header) (suc left) k (firstNodes k (g .nodes)) (nodeLine (node (g .nodes .lat) k) (node (g .nodes .lon) k) ++ t) ≡ nodes (g .header) left (suc k) (firstNodes (suc k) (g .nodes)) t
   unfolding nodes
   node-here left k t l =
       ap (λ (q : List ℕ). field (9 + k) comma (bytes "node=") q next) (sym (node-text (node (g .nodes .lat) k) (node (g .nodes .lon) k) t))
       ∙ field-here (9 + k) comma (bytes "node=") (spell (node (g .nodes .lon) k) ++ (newline ∷ t)) (node (g .nodes .lat) k) next (within-short maxShift of-lat (omega arith)) (omega arith)
-      ∙ word-here (9 + k) newline (λ b u. refuseIf (beyondRange (node (g .nodes .lat) k) || beyondRange b) 3 k (nodes (g .header) left (suc k) (take k (g .nodes .lat) ++ (node (g .nodes .lat) k ∷ [])) (take k (g .nodes .lon) ++ (b ∷ [])) u))
+      ∙ word-here (9 + k) newline (λ b u. refuseIf (beyondRange (node (g .nodes .lat) k) || beyondRange b) 3 k (nodes (g .header) left (suc k) (addNode (firstNodes k (g .nodes)) (node (g .nodes .lat) k) b) u))
       (node (g .nodes .lon) k) (within-short maxShift of-lon (omega arith)) (omega arith) t
       ∙ rw (not-beyond of-lat, not-beyond of-lon, take-suc (g .nodes .lat) k (pos 0) (omega (arith, roomy)), take-suc (g .nodes .lon) k (pos 0) (omega (arith, roomy)))
     where
@@ -80,17 +79,17 @@ module _ (g : Grid) (p : Passes g) where
       of-lon = checked .of-lon .ranged .range k l
 
       next : ℤ → List ℕ → Outcome Grid
-      next a u = word (9 + k) newline [] u (λ b v. refuseIf (beyondRange a || beyondRange b) 3 k (nodes (g .header) left (suc k) (take k (g .nodes .lat) ++ (a ∷ [])) (take k (g .nodes .lon) ++ (b ∷ [])) v))
+      next a u = word (9 + k) newline [] u (λ b v. refuseIf (beyondRange a || beyondRange b) 3 k (nodes (g .header) left (suc k) (addNode (firstNodes k (g .nodes)) a b) v))
 
-  nodes-here : (k left : ℕ) → k + left ≡ n → (t : List ℕ) → nodes (g .header) n 0 [] [] (nodeLines (g .nodes .lat) (g .nodes .lon) k ++ t) ≡ nodes (g .header) left k (take k (g .nodes .lat)) (take k (g .nodes .lon)) t
+  nodes-here : (k left : ℕ) → k + left ≡ n → (t : List ℕ) → nodes (g .header) n 0 noNodes (nodeLines (g .nodes) k ++ t) ≡ nodes (g .header) left k (firstNodes k (g .nodes)) t
   unfolding nodeLines
-  nodes-here zero left e t = ap (λ (j : ℕ). nodes (g .header) j 0 [] [] t) (omega arith)
+  nodes-here zero left e t = ap (λ (j : ℕ). nodes (g .header) j 0 noNodes t) (omega arith)
   nodes-here (suc k) left e t =
-      ap (nodes (g .header) n 0 [] []) (append-assoc (nodeLines (g .nodes .lat) (g .nodes .lon) k) (nodeLine (node (g .nodes .lat) k) (node (g .nodes .lon) k)) t)
+      ap (nodes (g .header) n 0 noNodes) (append-assoc (nodeLines (g .nodes) k) (nodeLine (node (g .nodes .lat) k) (node (g .nodes .lon) k)) t)
       ∙ nodes-here k (suc left) (omega arith) (nodeLine (node (g .nodes .lat) k) (node (g .nodes .lon) k) ++ t)
       ∙ node-here left k t (omega arith)
 
-  end-here : nodes (g .header) 0 n (take n (g .nodes .lat)) (take n (g .nodes .lon)) (line (bytes "end=") (pos n ∷ [])) ≡ answered (trimmed g)
+  end-here : nodes (g .header) 0 n (firstNodes n (g .nodes)) (line (bytes "end=") (pos n ∷ [])) ≡ answered (trimmed g)
   unfolding nodes ending
   end-here =
       ap (λ (q : List ℕ). field (9 + n) newline (bytes "end=") q next) (sym (append-nil (line (bytes "end=") (pos n ∷ []))))
@@ -100,13 +99,13 @@ module _ (g : Grid) (p : Passes g) where
       next : ℤ → List ℕ → Outcome Grid
       next count u = refuseIf (not (eqZ count (pos n))) 1 (9 + n) (nothing (10 + n) u (andThen (steepness (shape (g .header)) (firstNodes n (g .nodes))) (answered (trimmed g))))
 
-  -- the text of the grid, read into any two slices: the grid, where they have room for its nodes
-  pub read-back : (lats lons : List ℤ) → reading (gridText g) lats lons ≡ andThen (layout (gridOf (g .header) lats lons)) (answered (trimmed g))
+  -- the text of the grid, read into any slices: the grid, where they have room for its nodes
+  pub read-back : (slices : Nodes) → reading (gridText g) slices ≡ andThen (layout (gridWith (g .header) slices)) (answered (trimmed g))
   unfolding reading gridText
-  read-back lats lons =
+  read-back slices =
       let k = checked .header in
-      let t = nodeLines (g .nodes .lat) (g .nodes .lon) n ++ line (bytes "end=") (pos n ∷ []) in
-      ap (λ (q : List ℕ). reading q lats lons) (append-assoc (headerText (g .header)) (nodeLines (g .nodes .lat) (g .nodes .lon) n) (line (bytes "end=") (pos n ∷ [])) ∙ sym (header-text (g .header) t))
+      let t = nodeLines (g .nodes) n ++ line (bytes "end=") (pos n ∷ []) in
+      ap (λ (q : List ℕ). reading q slices) (append-assoc (headerText (g .header)) (nodeLines (g .nodes) n) (line (bytes "end=") (pos n ∷ [])) ∙ sym (header-text (g .header) t))
       ∙ fixed-here 1 (bytes "from=NAD27\n") _ _
       ∙ fixed-here 2 (bytes "to=NAD83\n") _ _
       ∙ line-here 3 (bytes "south=") _ (g .header .south .0) _ (between-short 323940000 (k .south) (own-size (minus 323940000)) (own-size (pos 323940000)) (omega arith))
@@ -115,4 +114,4 @@ module _ (g : Grid) (p : Passes g) where
       ∙ line-here 6 (bytes "dlon=") _ (g .header .dlon) _ (between-short 900000 (k .dlon) (widen (own-size (pos 1000)) tt) (own-size (pos 900000)) (omega arith))
       ∙ line-here 7 (bytes "rows=") _ (g .header .rows) _ (between-short 256 (k .rows) (widen (own-size (pos 2)) tt) (own-size (pos 256)) (omega arith))
       ∙ line-here 8 (bytes "cols=") t (g .header .cols) _ (between-short 256 (k .cols) (widen (own-size (pos 2)) tt) (own-size (pos 256)) (omega arith))
-      ∙ ap (andThen (layout (gridOf (g .header) lats lons))) (nodes-here n 0 (omega arith) (line (bytes "end=") (pos n ∷ [])) ∙ end-here)
+      ∙ ap (andThen (layout (gridWith (g .header) slices))) (nodes-here n 0 (omega arith) (line (bytes "end=") (pos n ∷ [])) ∙ end-here)

@@ -30,8 +30,7 @@ pub fn write_and_read<'a>(
     lons: &mut [i64],
 ) -> GridRead
     ensures answer { λ r. ⌜ readOutcome r ≡ gridAgain (gridOf h (now (lat .entry)) (now (lon .entry))) (nodeLists (now (lats .entry)) (now (lons .entry))) ⌝ }
-    ensures lat { λ r. ⌜ now (lats .exit) ≡ nodesAgain (readOutcome r) (now (lat .entry)) (now (lats .entry)) ⌝ }
-    ensures lon { λ r. ⌜ now (lons .exit) ≡ nodesAgain (readOutcome r) (now (lon .entry)) (now (lons .entry)) ⌝ }
+    ensures nodes { λ r. ⌜ nodeLists (now (lats .exit)) (now (lons .exit)) ≡ nodesAgain (readOutcome r) (nodeLists (now (lat .entry)) (now (lon .entry))) (nodeLists (now (lats .entry)) (now (lons .entry))) ⌝ }
 {
     let mut text = [0u8; 48_000];
     match grid_text::write(h, lat, lon, &mut text) {

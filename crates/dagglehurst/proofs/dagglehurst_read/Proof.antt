@@ -2,8 +2,9 @@ use borrow.Author.Needs.{needs}
 use mathlib.Core.Path.{refl, sym, ap, _∙_}
 use Rattle.laws.specs.Over.{over}
 use Rattle.figures.specs.Outcome.{answered, mapAnswer}
+use Rattle.grid.specs.Grid.{nodeLists}
 use Rattle.grid.specs.Rules.{nodesOf}
-use Rattle.grid_reader.specs.Reading.{readOutcome, headerOf, reading, latAfter, lonAfter}
+use Rattle.grid_reader.specs.Reading.{readOutcome, headerOf, reading, nodesAfter}
 use Rattle.dagglehurst.specs.Reply.{reply}
 use Rattle.dagglehurst.specs.Header.{numbers, nodesIn, headerAfter}
 use Rattle.figures.proofs.Laws.{refused-map, answered-map}
@@ -15,10 +16,10 @@ too-short-requires : tie.Need-too-short-requires
 too-short-requires c κs = search needs
 
 returns : tie.Need-returns
-unfolding headerAfter latAfter lonAfter
+unfolding headerAfter nodesAfter
 returns c =
     let a = c .before .before .before .args in
-    rw (header-short (a .text .now) (a .header .now) (a .lat .now) (a .lon .now) (c .before .if1 .taken)) (c .too-short .ensures, (refl, (refl, refl)))
+    rw (header-short (a .text .now) (a .header .now) (a .lat .now) (a .lon .now) (c .before .if1 .taken)) (c .too-short .ensures, (refl, refl))
 
 read-requires : tie.Need-read-requires
 read-requires c κs = search needs
@@ -52,7 +53,7 @@ unfolding headerAfter
 returns-2 c =
     let a = c .before .before .before .before .before .before .before .before .before .before .before .args in
     let d = c .before .before .before .before .before .before .read in
-    let o = refused-map headerOf (reading (a .text .now) (a .lat .now) (a .lon .now)) (ap readOutcome (sym (c .before .before .why .given .1)) ∙ d .ensures .0) in
+    let o = refused-map headerOf (reading (a .text .now) (nodeLists (a .lat .now) (a .lon .now))) (ap readOutcome (sym (c .before .before .why .given .1)) ∙ d .ensures .0) in
     rw (header-fits (a .text .now) (a .header .now) (a .lat .now) (a .lon .now) (c .before .before .before .before .before .before .before .before .before .if1 .left)) (
       c .refused .ensures ∙ ap (λ q. reply (mapAnswer nodesIn q)) (sym o),
       (ap (λ q. headerAfter q (a .header .now)) (sym o), d .ensures .1),
@@ -72,7 +73,7 @@ unfolding headerAfter
 returns-3 c =
     let a = c .before .before .before .before .before .before .before .before .before .before .before .before .before .before .before .args in
     let d = c .before .before .before .before .before .before .before .before .before .before .read in
-    let g = answered-map headerOf (reading (a .text .now) (a .lat .now) (a .lon .now)) (ap readOutcome (sym (c .before .before .before .before .before .before .h .given .1)) ∙ d .ensures .0) in
+    let g = answered-map headerOf (reading (a .text .now) (nodeLists (a .lat .now) (a .lon .now))) (ap readOutcome (sym (c .before .before .before .before .before .before .h .given .1)) ∙ d .ensures .0) in
     let h = sym (g .2) in
     let o = sym (g .1) in
     rw (header-fits (a .text .now) (a .header .now) (a .lat .now) (a .lon .now) (c .before .before .before .before .before .before .before .before .before .before .before .before .before .if1 .left)) (

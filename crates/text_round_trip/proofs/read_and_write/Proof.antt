@@ -39,7 +39,7 @@ same-length c = search needs
 
 returns-2 : tie.Need-returns-2
 unfolding scratch
-returns-2 c = let r = c .before .before .before .before .before .before .before .before .before .before .before in text-again _ _ (sym (ap readOutcome (c .before .before .before .before .before .before .before .header .given .1)) ∙ r .read .ensures .0) (r .read .ensures .1 .0) (r .read .ensures .1 .1) (c .before .before .write .ensures .0) (c .before .before .write .ensures .1)
+returns-2 c = let r = c .before .before .before .before .before .before .before .before .before .before .before in text-again _ _ (sym (ap readOutcome (c .before .before .before .before .before .before .before .header .given .1)) ∙ r .read .ensures .0) (r .read .ensures .1) (c .before .before .write .ensures .0) (c .before .before .write .ensures .1)
 
 pub read-and-write-spec : {M : Type 1} → statement M
 read-and-write-spec =

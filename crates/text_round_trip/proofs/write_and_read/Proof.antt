@@ -34,7 +34,7 @@ read-requires : tie.Need-read-requires
 read-requires c κs = search needs
 
 returns : tie.Need-returns
-returns c = grid-refused _ _ zeros _ _ (sym (ap writtenOutcome (c .before .why .given .1)) ∙ c .before .before .before .before .write .ensures .0)
+returns c = grid-refused _ _ zeros _ (sym (ap writtenOutcome (c .before .why .given .1)) ∙ c .before .before .before .before .write .ensures .0)
 
 same-length : tie.Need-same-length
 same-length c = search needs
@@ -43,7 +43,7 @@ same-length-2 : tie.Need-same-length-2
 same-length-2 c = search needs
 
 returns-2 : tie.Need-returns-2
-returns-2 c = let w = c .before .before .before .before .before .before .before .before .before .before in grid-again _ _ zeros (ap writtenOutcome (c .before .before .before .before .before .before .before .n .given .1)) (w .write .ensures .0) (w .write .ensures .1) _ _ (c .before .before .read .ensures .0) (c .before .before .read .ensures .1 .0) (c .before .before .read .ensures .1 .1)
+returns-2 c = let w = c .before .before .before .before .before .before .before .before .before .before in grid-again _ _ zeros (ap writtenOutcome (c .before .before .before .before .before .before .before .n .given .1)) (w .write .ensures .0) (w .write .ensures .1) _ (c .before .before .read .ensures .0) (c .before .before .read .ensures .1)
 
 pub write-and-read-spec : {M : Type 1} → statement M
 write-and-read-spec =

@@ -5,6 +5,7 @@ use borrow.Author.Needs.{needs}
 use lib.ListN.{length}
 use Rattle.writing.specs.Writing.{Put}
 use Rattle.writing.proofs.Laws.{put-nothing, put-added}
+use Rattle.grid.specs.Grid.{nodeLists}
 use Rattle.grid_text.specs.Text.{nodeLines}
 use Rattle.grid_text.proofs.Lengths.{nodes-next}
 use mathlib.Core.Path.{_≡_, _∙_}
@@ -13,7 +14,7 @@ use Rattle.grid_text.proofs.parts.put_nodes.Statement.{statement}
 use Rattle.grid_text.proofs.parts.put_nodes.Tie as tie
 
 abbrev Inv-loop : tie.InvT-loop
-Inv-loop lat lon n room₀ at₀ k₀ t7 room at k = (k ≤ n) × Put (nodeLines lat lon k) room₀ room at
+Inv-loop lat lon n room₀ at₀ k₀ t7 room at k = (k ≤ n) × Put (nodeLines (nodeLists lat lon) k) room₀ room at
 
 abbrev μ-loop : tie.MeasureT-loop
 μ-loop lat lon n room₀ at₀ k₀ t7 room at k = n - k
@@ -55,7 +56,7 @@ loop-again c =
     let s = l .before .before in
     let p = element (x .number-at .ok) ∙ x .number-at .ensures in
     let q = element (y .number-at2 .ok) ∙ y .number-at2 .ensures in
-    (omega arith, rw (nodes-next (s .args .lat .now) (s .args .lon .now) (l .loop .k)) (put-added (l .loop .inv .1) (rw (p, q) at (a .add-line .ensures)) (lent s)))
+    (omega arith, rw (nodes-next (nodeLists (s .args .lat .now) (s .args .lon .now)) (l .loop .k)) (put-added (l .loop .inv .1) (rw (p, q) at (a .add-line .ensures)) (lent s)))
 
 same-length : tie.Need-same-length Inv-loop μ-loop
 same-length c = c .before .loop .inv .1 .kept
