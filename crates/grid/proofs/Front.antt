@@ -6,7 +6,7 @@ use mathlib.Core.List.{List}
 use native.Mathlib.Omega.{arith}
 use borrow.Author.Tests.{ltb-true, ltb-false, lt-ltb, le-ltb}
 use lib.Dec.{ltb}
-use lib.ListN.{take, length-take}
+use lib.ListN.{take}
 use lib.Seq.{getD-take}
 use lib.IntN.{ℤ, pos}
 use Rattle.laws.specs.First.{first-same}
@@ -18,6 +18,7 @@ use Rattle.grid.specs.Check.{layout, steepness, nodesVerdict, verdict}
 use Rattle.grid.specs.declared.Shape.{Shape}
 use Rattle.grid.proofs.RuleLaws.{extent}
 use Rattle.grid.proofs.NodeLaws.{east-in}
+use Rattle.grid.proofs.NodeLists.{first-room}
 use Rattle.grid.proofs.Passing.{laid}
 
 module _ (s : Shape) (some-cols : 0 < s .cols) where
@@ -57,8 +58,8 @@ module _ (g : Grid) where
   short-front ns = go (ltb (nodeRoom ns) count) refl
     where
       go : (t : Bool) → ltb (nodeRoom ns) count ≡ t → ltb (nodeRoom (firstNodes count ns)) count ≡ t
-      go true e = lt-ltb (nodeRoom (firstNodes count ns)) count (omega (arith, length-take count (ns .lat), length-take count (ns .lon), ltb-true (nodeRoom ns) count e))
-      go false e = le-ltb (nodeRoom (firstNodes count ns)) count (omega (arith, length-take count (ns .lat), length-take count (ns .lon), ltb-false (nodeRoom ns) count e))
+      go true e = lt-ltb (nodeRoom (firstNodes count ns)) count (omega (arith, first-room count ns, ltb-true (nodeRoom ns) count e))
+      go false e = le-ltb (nodeRoom (firstNodes count ns)) count (omega (arith, first-room count ns, ltb-false (nodeRoom ns) count e))
 
   layout-front : layout (trimmed g) ≡ layout g
   unfolding layout

@@ -36,7 +36,7 @@ setNode ns k a b = nodeLists (set (ns .lat) k a) (set (ns .lon) k b)
 abbrev pub firstNodes : (n : ℕ) → Nodes → Nodes
 firstNodes n ns = nodeLists (take n (ns .lat)) (take n (ns .lon))
 
--- over the front of what stands in two lists
+-- over the front of the lists `slices`
 abbrev pub overNodes : (ns slices : Nodes) → Nodes
 overNodes ns slices = nodeLists (over (ns .lat) (slices .lat)) (over (ns .lon) (slices .lon))
 

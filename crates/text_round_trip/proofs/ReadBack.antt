@@ -4,7 +4,6 @@ use mathlib.Core.Path.{_≡_, refl, sym, ap, _∙_}
 use mathlib.Core.Bool.{not, _||_}
 use mathlib.Core.List.{List, [], _∷_, _++_, append-assoc, append-nil}
 use native.Mathlib.Omega.{arith}
-use lib.Seq.{take-suc}
 use lib.IntN.{ℤ, pos}
 use Rattle.laws.specs.Bytes.{bytes}
 use Rattle.laws.specs.Parts.{Within, ints, abs-parts, parts-disjoint}
@@ -18,6 +17,7 @@ use Rattle.grid.specs.Nodes.{maxShift, node, beyondRange}
 use Rattle.grid.specs.Check.{layout, steepness, Passes}
 use Rattle.grid.proofs.RuleLaws.{Between, between-within, extent}
 use Rattle.grid.proofs.NodeLaws.{not-beyond}
+use Rattle.grid.proofs.NodeLists.{first-more}
 use Rattle.grid.proofs.Passing.{Good, good, laid, passes-steepness}
 use Rattle.grid.proofs.Front.{verdict-front}
 use Rattle.lines.specs.Text.{newline, listed, line}
@@ -70,7 +70,7 @@ module _ (g : Grid) (p : Passes g) where
       ∙ field-here (9 + k) comma (bytes "node=") (spell (node (g .nodes .lon) k) ++ (newline ∷ t)) (node (g .nodes .lat) k) next (within-short maxShift of-lat (omega arith)) (omega arith)
       ∙ word-here (9 + k) newline (λ b u. refuseIf (beyondRange (node (g .nodes .lat) k) || beyondRange b) 3 k (nodes (g .header) left (suc k) (addNode (firstNodes k (g .nodes)) (node (g .nodes .lat) k) b) u))
       (node (g .nodes .lon) k) (within-short maxShift of-lon (omega arith)) (omega arith) t
-      ∙ rw (not-beyond of-lat, not-beyond of-lon, take-suc (g .nodes .lat) k (pos 0) (omega (arith, roomy)), take-suc (g .nodes .lon) k (pos 0) (omega (arith, roomy)))
+      ∙ rw (not-beyond of-lat, not-beyond of-lon, first-more (g .nodes) k (omega (arith, roomy)))
     where
       of-lat : Within maxShift (node (g .nodes .lat) k)
       of-lat = checked .of-lat .ranged .range k l
