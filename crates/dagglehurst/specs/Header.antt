@@ -7,7 +7,7 @@ use lib.IntN.{ℤ, pos}
 use Rattle.laws.specs.Over.{over}
 use Rattle.figures.specs.Outcome.{Outcome, answered, refused, refuseIf}
 use Rattle.grid.specs.Grid.{header, nodeLists, Grid, gridOf}
-use Rattle.grid.specs.Rules.{nodesOf}
+use Rattle.grid.specs.Rules.{nodeCountOr0}
 use Rattle.grid.specs.declared.Header.{Header}
 use Rattle.grid_reader.specs.Reading.{reading}
 
@@ -30,8 +30,8 @@ numbers h = h .south .0 ∷ h .west .0 ∷ h .dlat ∷ h .dlon ∷ h .rows ∷ h
 unfoldable pub readingAll : (text : List ℕ) → (header lat lon : List ℤ) → Outcome Grid
 readingAll text header lat lon = refuseIf (ltb (length header) 6) 8 6 (reading text (nodeLists lat lon))
 
-abbrev pub nodesIn : Grid → ℕ
-nodesIn g = nodesOf (g .header)
+abbrev pub nodeCountIn : Grid → ℕ
+nodeCountIn g = nodeCountOr0 (g .header)
 
 -- the header takes the front of its slice; after a refusal the slice is as it was
 unfoldable pub headerAfter : Outcome Grid → List ℤ → List ℤ

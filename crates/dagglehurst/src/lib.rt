@@ -15,7 +15,7 @@ ghost use mathlib.Core.Path.{_≡_};
 ghost use Rattle.figures.specs.Outcome.{mapAnswer};
 ghost use Rattle.writing.specs.Writing.{roomAfter};
 ghost use Rattle.grid.specs.Grid.{nodeLists};
-ghost use Rattle.grid.specs.Rules.{nodesOf};
+ghost use Rattle.grid.specs.Rules.{nodeCountOr0};
 ghost use Rattle.grid.specs.Check.{verdict};
 ghost use Rattle.grid_text.specs.Text.{gridText};
 ghost use Rattle.grid_text.specs.Writing.{writing};
@@ -23,7 +23,7 @@ ghost use Rattle.grid_reader.specs.Reading.{nodesAfter};
 ghost use Rattle.requests.specs.Replies.{checkedAfresh};
 ghost use Rattle.listing.specs.Listing.{listing, listText};
 ghost use Rattle.dagglehurst.specs.Reply.{reply};
-ghost use Rattle.dagglehurst.specs.Header.{headerIn, gridIn, readingAll, nodesIn, headerAfter};
+ghost use Rattle.dagglehurst.specs.Header.{headerIn, gridIn, readingAll, nodeCountIn, headerAfter};
 ghost use Rattle.convert.specs.Pairs.{converted};
 ghost use Rattle.convert.specs.Many.{convertingAll, answersAfter, refusalsAfter};
 ghost use Rattle.dagglehurst.specs.Points.{fitted, one, pairAfter};
@@ -36,7 +36,7 @@ pub extern "C" fn dagglehurst_read(
     lat: &mut [i64],
     lon: &mut [i64],
 ) -> u64
-    ensures answer { λ r. ⌜ r ≡ reply (mapAnswer nodesIn (readingAll (now (text .entry)) (now (header .entry)) (now (lat .entry)) (now (lon .entry)))) ⌝ }
+    ensures answer { λ r. ⌜ r ≡ reply (mapAnswer nodeCountIn (readingAll (now (text .entry)) (now (header .entry)) (now (lat .entry)) (now (lon .entry)))) ⌝ }
     ensures header { λ r. ⌜ now (header .exit) ≡ headerAfter (readingAll (now (text .entry)) (now (header .entry)) (now (lat .entry)) (now (lon .entry))) (now (header .entry)) ⌝ }
     ensures nodes { λ r. ⌜ nodeLists (now (lat .exit)) (now (lon .exit)) ≡ nodesAfter (readingAll (now (text .entry)) (now (header .entry)) (now (lat .entry)) (now (lon .entry))) (nodeLists (now (lat .entry)) (now (lon .entry))) ⌝ }
 {
@@ -47,7 +47,7 @@ pub extern "C" fn dagglehurst_read(
         GridRead::Refused(why) => reply::refused(why),
         GridRead::Grid(h) => {
             put_header(h, header);
-            reply::answered(h.nodes())
+            reply::answered(h.node_count())
         }
     }
 }
@@ -69,12 +69,12 @@ pub extern "C" fn dagglehurst_write<'a>(
 // Checks a grid.
 #[no_mangle]
 pub extern "C" fn dagglehurst_check<'a>(header: &'a [i64], lat: &'a [i64], lon: &'a [i64]) -> u64
-    ensures { λ r. ⌜ r ≡ reply (mapAnswer (λ passed. nodesOf (headerIn (now (header .entry)))) (verdict (gridIn (now (header .entry)) (now (lat .entry)) (now (lon .entry))))) ⌝ }
+    ensures { λ r. ⌜ r ≡ reply (mapAnswer (λ passed. nodeCountOr0 (headerIn (now (header .entry)))) (verdict (gridIn (now (header .entry)) (now (lat .entry)) (now (lon .entry))))) ⌝ }
 {
     let h = header_in(header);
     match grid::check(h, lat, lon) {
         Checked::Refused(why) => reply::refused(why),
-        Checked::Passes => reply::answered(h.nodes()),
+        Checked::Passes => reply::answered(h.node_count()),
     }
 }
 
@@ -158,7 +158,7 @@ pub extern "C" fn dagglehurst_list<'a>(
     room: &mut [u8],
 ) -> u64
     ensures answer { λ r. ⌜ r ≡ reply (listing (gridIn (now (header .entry)) (now (lat .entry)) (now (lon .entry))) (now (requests .entry)) (now (room .entry))) ⌝ }
-    ensures room { λ r. ⌜ now (room .exit) ≡ roomAfter (listing (gridIn (now (header .entry)) (now (lat .entry)) (now (lon .entry))) (now (requests .entry)) (now (room .entry))) (listText (nodesOf (headerIn (now (header .entry)))) (checkedAfresh (gridIn (now (header .entry)) (now (lat .entry)) (now (lon .entry)))) (now (requests .entry))) (now (room .entry)) ⌝ }
+    ensures room { λ r. ⌜ now (room .exit) ≡ roomAfter (listing (gridIn (now (header .entry)) (now (lat .entry)) (now (lon .entry))) (now (requests .entry)) (now (room .entry))) (listText (nodeCountOr0 (headerIn (now (header .entry)))) (checkedAfresh (gridIn (now (header .entry)) (now (lat .entry)) (now (lon .entry)))) (now (requests .entry))) (now (room .entry)) ⌝ }
 {
     reply::written(listing::list(header_in(header), lat, lon, requests, room))
 }

@@ -15,7 +15,7 @@ use Rattle.laws.specs.Parts.{posPart, Within, ints, parts-disjoint}
 use Rattle.laws.specs.Bounds.{own-size, widen}
 use Rattle.laws.specs.Expr.{machine}
 use Rattle.laws.specs.Logic.{both, leZ-true, leZ-false, leZ-holds}
-use Rattle.grid.specs.Rules.{minus, between, lastNode, firstFalse, brokenRule, northEdge, eastEdge, shape, nodeCount, nodesOf}
+use Rattle.grid.specs.Rules.{minus, between, lastNode, firstFalse, brokenRule, northEdge, eastEdge, shape, nodeCount, nodeCountOr0}
 use Rattle.grid.specs.Needs.{Extent}
 use Rattle.grid.specs.declared.Header.{Header}
 
@@ -148,6 +148,6 @@ extent {h} k =
     }
 
 -- the nodes of a header that breaks no rule
-pub nodes-counted : (h : Header) → brokenRule h ≡ 0 → nodesOf h ≡ nodeCount h
-unfolding nodesOf
-nodes-counted h e = rw (eq-eqb (brokenRule h) 0 e)
+pub node-count-is : (h : Header) → brokenRule h ≡ 0 → nodeCountOr0 h ≡ nodeCount h
+unfolding nodeCountOr0
+node-count-is h e = rw (eq-eqb (brokenRule h) 0 e)

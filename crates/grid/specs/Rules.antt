@@ -66,5 +66,5 @@ abbrev pub nodeCount : Header → ℕ
 nodeCount h = shape h .rows * shape h .cols
 
 -- the same of any header: 0 where a rule is broken
-unfoldable pub nodesOf : Header → ℕ
-nodesOf h = cond (eqb (brokenRule h) 0) (nodeCount h) 0
+unfoldable pub nodeCountOr0 : Header → ℕ
+nodeCountOr0 h = cond (eqb (brokenRule h) 0) (nodeCount h) 0

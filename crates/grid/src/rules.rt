@@ -5,7 +5,7 @@ ghost use mathlib.Core.Path.{_≡_};
 ghost use Prim.Native.Nat.{_≤_};
 ghost use lib.Signed.{leZ};
 ghost use Rattle.laws.specs.Parts.{posPart, Within};
-ghost use Rattle.grid.specs.Rules.{between, lastNode, firstFalse, sizeRules, rules, brokenRule, shape, nodesOf};
+ghost use Rattle.grid.specs.Rules.{between, lastNode, firstFalse, sizeRules, rules, brokenRule, shape, nodeCountOr0};
 ghost use Rattle.grid.specs.Needs.{Sized};
 
 impl Header {
@@ -49,8 +49,8 @@ impl Header {
     }
 
     // The number of nodes, or 0 where the header breaks a rule.
-    pub fn nodes(self) -> usize
-        ensures { λ r. ⌜ (r ≡ nodesOf self) × (r ≤ 2048) ⌝ }
+    pub fn node_count(self) -> usize
+        ensures { λ r. ⌜ (r ≡ nodeCountOr0 self) × (r ≤ 2048) ⌝ }
     {
         if self.broken_rule() == 0 {
             let shape = self.shape();

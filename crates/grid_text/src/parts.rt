@@ -15,7 +15,7 @@ pub(crate) fn put_grid<'a>(h: Header, lat: &'a [i64], lon: &'a [i64], room: &mut
     requires { ⌜ brokenRule h ≡ 0 ⌝ }
     ensures { λ r. ⌜ Put (gridText (gridOf h (now (lat .entry)) (now (lon .entry)))) (now (room .entry)) (now (room .exit)) r ⌝ }
 {
-    let n = h.nodes();
+    let n = h.node_count();
     let at = put_header(h, room);
     let from = least(at, room.len());
     let end = saturating_add(at, put_nodes(lat, lon, n, &mut room[from..]));

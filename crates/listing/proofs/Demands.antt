@@ -9,7 +9,7 @@ use lib.IntN.{pos}
 use Rattle.laws.specs.Logic.{either-way}
 use Rattle.laws.specs.Over.{over}
 use Rattle.grid.specs.Grid.{Grid}
-use Rattle.grid.specs.Rules.{nodesOf}
+use Rattle.grid.specs.Rules.{nodeCountOr0}
 use Rattle.grid.specs.Check.{Passes}
 use Rattle.requests.specs.Requests.{requestIn}
 use Rattle.requests.specs.Replies.{Conversions, checkedOnce, checkedAfresh, isAnswer, replyTo}
@@ -39,12 +39,12 @@ module _ (c : Conversions) where
 
 -- the pieces written, joined, are what the list writes for the pieces read, joined
 pub in-pieces : (g : Grid) → Passes g → (pieces : List (List ℕ)) → length (joined pieces) < 2 ^ 63
-    → inPieces (nodesOf (g .header)) (checkedOnce g) pieces ≡ listText (nodesOf (g .header)) (checkedAfresh g) (joined pieces)
+    → inPieces (nodeCountOr0 (g .header)) (checkedOnce g) pieces ≡ listText (nodeCountOr0 (g .header)) (checkedAfresh g) (joined pieces)
 unfolding inPieces
 in-pieces g e pieces b =
     let c = checkedOnce g in
     let r = feed-joined c fresh (fresh-fed c) pieces in
-    rw (r .0, r .1) (sym (list-text (nodesOf (g .header)) c (joined pieces) b) ∙ ap (λ d. listText (nodesOf (g .header)) d (joined pieces)) (once-afresh g e))
+    rw (r .0, r .1) (sym (list-text (nodeCountOr0 (g .header)) c (joined pieces) b) ∙ ap (λ d. listText (nodeCountOr0 (g .header)) d (joined pieces)) (once-afresh g e))
 
 -- ---- totals
 

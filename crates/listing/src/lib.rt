@@ -11,7 +11,7 @@ ghost use mathlib.Core.Path.{_≡_};
 ghost use Rattle.writing.specs.Writing.{inRoom, roomAfter, writtenOutcome, Wrote};
 ghost use Rattle.requests.specs.Replies.{checkedAfresh, checkedOnce};
 ghost use Rattle.grid.specs.Grid.{gridOf};
-ghost use Rattle.grid.specs.Rules.{nodesOf};
+ghost use Rattle.grid.specs.Rules.{nodeCountOr0};
 ghost use Rattle.listing.specs.Listing.{sheetText, listText, beginning, listing};
 ghost use Rattle.listing.specs.Pieces.{fresh, fedText, fedList, endText, listAfter};
 
@@ -48,11 +48,11 @@ impl Listing {
 // The first line of a list. It is the check of the grid: 2, 5, 3, 4, then 8.
 pub fn begin<'a>(h: Header, lat: &'a [i64], lon: &'a [i64], room: &mut [u8]) -> Written
     ensures answer { λ r. ⌜ writtenOutcome r ≡ beginning (gridOf h (now (lat .entry)) (now (lon .entry))) (now (room .entry)) ⌝ }
-    ensures text { λ r. ⌜ now (room .exit) ≡ roomAfter (writtenOutcome r) (sheetText (nodesOf h)) (now (room .entry)) ⌝ }
+    ensures text { λ r. ⌜ now (room .exit) ≡ roomAfter (writtenOutcome r) (sheetText (nodeCountOr0 h)) (now (room .entry)) ⌝ }
 {
     match grid::check(h, lat, lon) {
         Checked::Refused(why) => Written::Refused(why),
-        Checked::Passes => Reply::Sheet(h.nodes() as i64).write(room),
+        Checked::Passes => Reply::Sheet(h.node_count() as i64).write(room),
     }
 }
 
@@ -99,7 +99,7 @@ pub fn finish(list: Listing, room: &mut [u8]) -> Written
 // The whole list for a request text: 2, 5, 3, 4, then 8. The grid is checked once.
 pub fn list<'a>(h: Header, lat: &'a [i64], lon: &'a [i64], text: &[u8], room: &mut [u8]) -> Written
     ensures answer { λ r. ⌜ writtenOutcome r ≡ listing (gridOf h (now (lat .entry)) (now (lon .entry))) (now (text .entry)) (now (room .entry)) ⌝ }
-    ensures text { λ r. ⌜ now (room .exit) ≡ roomAfter (writtenOutcome r) (listText (nodesOf h) (checkedAfresh (gridOf h (now (lat .entry)) (now (lon .entry)))) (now (text .entry))) (now (room .entry)) ⌝ }
+    ensures text { λ r. ⌜ now (room .exit) ≡ roomAfter (writtenOutcome r) (listText (nodeCountOr0 h) (checkedAfresh (gridOf h (now (lat .entry)) (now (lon .entry)))) (now (text .entry))) (now (room .entry)) ⌝ }
 {
     match grid::check(h, lat, lon) {
         Checked::Refused(why) => Written::Refused(why),
@@ -115,7 +115,7 @@ fn list_checked<'a>(
     text: &[u8],
     room: &mut [u8],
 ) -> Written
-    ensures { λ r. ⌜ Wrote (listText (nodesOf h) (checkedOnce (gridOf h (now (lat .entry)) (now (lon .entry)))) (now (text .entry))) (now (room .entry)) (now (room .exit)) r ⌝ }
+    ensures { λ r. ⌜ Wrote (listText (nodeCountOr0 h) (checkedOnce (gridOf h (now (lat .entry)) (now (lon .entry)))) (now (text .entry))) (now (room .entry)) (now (room .exit)) r ⌝ }
 {
     let needed = putting::put_list(h, lat, lon, text, &mut room[0..0]);
     if room.len() < needed {

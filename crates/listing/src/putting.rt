@@ -10,7 +10,7 @@ ghost use lib.ListN.{length};
 ghost use Rattle.writing.specs.Writing.{Put};
 ghost use Rattle.requests.specs.Replies.{checkedOnce};
 ghost use Rattle.grid.specs.Grid.{gridOf};
-ghost use Rattle.grid.specs.Rules.{nodesOf};
+ghost use Rattle.grid.specs.Rules.{nodeCountOr0};
 ghost use Rattle.listing.specs.Listing.{listText};
 ghost use Rattle.listing.specs.Pieces.{fedText, endText};
 ghost use Rattle.listing.specs.Needs.{Lacking, Stepped, Replied};
@@ -123,9 +123,9 @@ pub(crate) fn put_list<'a>(
     text: &[u8],
     room: &mut [u8],
 ) -> usize
-    ensures { λ r. ⌜ Put (listText (nodesOf h) (checkedOnce (gridOf h (now (lat .entry)) (now (lon .entry)))) (now (text .entry))) (now (room .entry)) (now (room .exit)) r ⌝ }
+    ensures { λ r. ⌜ Put (listText (nodeCountOr0 h) (checkedOnce (gridOf h (now (lat .entry)) (now (lon .entry)))) (now (text .entry))) (now (room .entry)) (now (room .exit)) r ⌝ }
 {
-    let start = Reply::Sheet(h.nodes() as i64).write(room).bytes();
+    let start = Reply::Sheet(h.node_count() as i64).write(room).bytes();
     let from = least(start, room.len());
     let done = put_replies(Listing::new(), h, lat, lon, text, &mut room[from..]);
     let end = saturating_add(start, done.bytes);

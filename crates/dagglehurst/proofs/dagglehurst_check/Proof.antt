@@ -2,7 +2,7 @@ use borrow.Author.Needs.{needs}
 use mathlib.Core.Path.{sym, ap, _∙_}
 use Rattle.figures.specs.Outcome.{answered, mapAnswer}
 use Rattle.grid.specs.Grid.{gridOf}
-use Rattle.grid.specs.Rules.{nodesOf}
+use Rattle.grid.specs.Rules.{nodeCountOr0}
 use Rattle.grid.specs.Check.{checkOutcome, verdict}
 use Rattle.dagglehurst.specs.Reply.{reply}
 use Rattle.dagglehurst.specs.Header.{headerIn}
@@ -24,8 +24,8 @@ refused-requires c κs = search needs
 enum-told : tie.Need-enum-told
 enum-told c = search needs
 
-nodes-requires : tie.Need-nodes-requires
-nodes-requires c κs = search needs
+node-count-requires : tie.Need-node-count-requires
+node-count-requires c κs = search needs
 
 answered-requires : tie.Need-answered-requires
 answered-requires c κs = search needs
@@ -34,15 +34,15 @@ returns : tie.Need-returns
 returns c =
     let a = c .before .before .before .before .before .before .args in
     let v = ap checkOutcome (sym (c .before .before .why .given .1)) ∙ c .before .before .before .before .check .ensures ∙ ap (λ h. verdict (gridOf h (a .lat .now) (a .lon .now))) (c .before .before .before .before .before .header-in .ensures) in
-    c .refused .ensures ∙ ap (λ o. reply (mapAnswer (λ passed. nodesOf (headerIn (a .header .now))) o)) v
+    c .refused .ensures ∙ ap (λ o. reply (mapAnswer (λ passed. nodeCountOr0 (headerIn (a .header .now))) o)) v
 
 returns-2 : tie.Need-returns-2
 returns-2 c =
     let a = c .before .before .before .before .before .before .args in
     let h = c .before .before .before .before .before .header-in .ensures in
     let v = ap checkOutcome (sym (c .before .before .enum-told .given .1)) ∙ c .before .before .before .before .check .ensures ∙ ap (λ h. verdict (gridOf h (a .lat .now) (a .lon .now))) h in
-    c .answered .ensures ∙ ap (λ n. reply (answered n)) (c .before .nodes .ensures .0 ∙ ap nodesOf h)
-    ∙ ap (λ o. reply (mapAnswer (λ passed. nodesOf (headerIn (a .header .now))) o)) v
+    c .answered .ensures ∙ ap (λ n. reply (answered n)) (c .before .node-count .ensures .0 ∙ ap nodeCountOr0 h)
+    ∙ ap (λ o. reply (mapAnswer (λ passed. nodeCountOr0 (headerIn (a .header .now))) o)) v
 
 pub dagglehurst-check-spec : {M : Type 1} → statement M
 dagglehurst-check-spec =
@@ -53,7 +53,7 @@ dagglehurst-check-spec =
     enum-known-why
     refused-requires
     enum-told
-    nodes-requires
+    node-count-requires
     answered-requires
     returns
     returns-2)

@@ -3,10 +3,10 @@ use mathlib.Core.Path.{refl, sym, ap, _∙_}
 use Rattle.laws.specs.Over.{over}
 use Rattle.figures.specs.Outcome.{answered, mapAnswer}
 use Rattle.grid.specs.Grid.{nodeLists}
-use Rattle.grid.specs.Rules.{nodesOf}
+use Rattle.grid.specs.Rules.{nodeCountOr0}
 use Rattle.grid_reader.specs.Reading.{readOutcome, headerOf, reading, nodesAfter}
 use Rattle.dagglehurst.specs.Reply.{reply}
-use Rattle.dagglehurst.specs.Header.{numbers, nodesIn, headerAfter}
+use Rattle.dagglehurst.specs.Header.{numbers, nodeCountIn, headerAfter}
 use Rattle.figures.proofs.Laws.{refused-map, answered-map}
 use Rattle.dagglehurst.proofs.Laws.{header-short, header-fits}
 use Rattle.dagglehurst.proofs.dagglehurst_read.Statement.{statement}
@@ -36,8 +36,8 @@ enum-known-h c = search needs
 put-header-requires : tie.Need-put-header-requires
 put-header-requires c κs = search needs
 
-nodes-requires : tie.Need-nodes-requires
-nodes-requires c κs = search needs
+node-count-requires : tie.Need-node-count-requires
+node-count-requires c κs = search needs
 
 answered-requires : tie.Need-answered-requires
 answered-requires c κs = search needs
@@ -55,7 +55,7 @@ returns-2 c =
     let d = c .before .before .before .before .before .before .read in
     let o = refused-map headerOf (reading (a .text .now) (nodeLists (a .lat .now) (a .lon .now))) (ap readOutcome (sym (c .before .before .why .given .1)) ∙ d .ensures .0) in
     rw (header-fits (a .text .now) (a .header .now) (a .lat .now) (a .lon .now) (c .before .before .before .before .before .before .before .before .before .if1 .left)) (
-      c .refused .ensures ∙ ap (λ q. reply (mapAnswer nodesIn q)) (sym o),
+      c .refused .ensures ∙ ap (λ q. reply (mapAnswer nodeCountIn q)) (sym o),
       (ap (λ q. headerAfter q (a .header .now)) (sym o), d .ensures .1),
     )
 
@@ -77,7 +77,7 @@ returns-3 c =
     let h = sym (g .2) in
     let o = sym (g .1) in
     rw (header-fits (a .text .now) (a .header .now) (a .lat .now) (a .lon .now) (c .before .before .before .before .before .before .before .before .before .before .before .before .before .if1 .left)) (
-      c .answered .ensures ∙ ap (λ n. reply (answered n)) (c .before .nodes .ensures .0 ∙ ap nodesOf h) ∙ ap (λ q. reply (mapAnswer nodesIn q)) o,
+      c .answered .ensures ∙ ap (λ n. reply (answered n)) (c .before .node-count .ensures .0 ∙ ap nodeCountOr0 h) ∙ ap (λ q. reply (mapAnswer nodeCountIn q)) o,
       (c .before .before .before .put-header .ensures ∙ ap (λ k. over (numbers k) (a .header .now)) h ∙ ap (λ q. headerAfter q (a .header .now)) o, d .ensures .1),
     )
 
@@ -92,7 +92,7 @@ dagglehurst-read-spec =
     refused-requires
     enum-known-h
     put-header-requires
-    nodes-requires
+    node-count-requires
     answered-requires
     same-length
     same-length-2

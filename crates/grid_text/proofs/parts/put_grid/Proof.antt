@@ -5,7 +5,7 @@ use mathlib.Core.Path.{ap, _∙_}
 use lib.ListN.{length}
 use lib.IntN.{pos}
 use Rattle.decimal.proofs.Signs.{read-pos}
-use Rattle.grid.proofs.RuleLaws.{nodes-counted}
+use Rattle.grid.proofs.RuleLaws.{node-count-is}
 use Rattle.writing.proofs.Laws.{put-added, put-rest}
 use Rattle.grid_text.specs.Text.{gridText}
 use Rattle.grid_text.proofs.parts.put_grid.Statement.{statement}
@@ -14,8 +14,8 @@ use Rattle.grid_text.proofs.parts.put_grid.Tie as tie
 lent : (c : tie.Start) → length (c .args .room .now) < 2 ^ 63
 lent c = omega arith
 
-nodes-requires : tie.Need-nodes-requires
-nodes-requires c κs = search needs
+node-count-requires : tie.Need-node-count-requires
+node-count-requires c κs = search needs
 
 put-header-requires : tie.Need-put-header-requires
 put-header-requires c κs = search needs
@@ -63,15 +63,15 @@ returns c =
     let h = l .before .before .before in
     let m = h .before .before in
     let s = m .before .before in
-    let i = m .nodes .ensures .0 ∙ nodes-counted (s .args .h) (s .pre) in
-    let z = read-pos (m .nodes .result) (omega (arith, m .nodes .ensures .1)) ∙ ap pos i in
+    let i = m .node-count .ensures .0 ∙ node-count-is (s .args .h) (s .pre) in
+    let z = read-pos (m .node-count .result) (omega (arith, m .node-count .ensures .1)) ∙ ap pos i in
     put-added (put-rest (h .put-header .ensures) (l .least .ensures) (lent s) (rw i at (n .put-nodes .ensures)) (e .saturating-add .ensures)) (rw z at (a .add-line .ensures)) (lent s)
 
 pub put-grid-spec : {M : Type 1} → statement M
 put-grid-spec =
     tie.close
     (tie.spec
-    nodes-requires
+    node-count-requires
     put-header-requires
     least-requires
     sub-put-nodes

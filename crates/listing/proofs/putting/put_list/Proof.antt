@@ -4,7 +4,7 @@ use native.Mathlib.Omega.{arith}
 use lib.ListN.{length}
 use Rattle.writing.proofs.Laws.{wrote-put, put-rest}
 use Rattle.grid.specs.Grid.{gridOf}
-use Rattle.grid.specs.Rules.{nodesOf}
+use Rattle.grid.specs.Rules.{nodeCountOr0}
 use Rattle.requests.specs.Replies.{checkedOnce}
 use Rattle.listing.proofs.Whole.{sheet-wrote, list-text}
 use Rattle.listing.proofs.putting.put_list.Statement.{statement}
@@ -16,8 +16,8 @@ short c = omega arith
 lent : (c : tie.Start) → length (c .args .room .now) < 2 ^ 63
 lent c = omega arith
 
-nodes-requires : tie.Need-nodes-requires
-nodes-requires c κs = search needs
+node-count-requires : tie.Need-node-count-requires
+node-count-requires c κs = search needs
 
 cast-t14 : tie.Need-cast-t14
 cast-t14 c = search needs
@@ -85,15 +85,15 @@ returns c =
     let a = s .args in
     let f = rw (n .new .ensures) at (p .put-replies .ensures) in
     let z = rw (f .next) at (e .put-end .ensures) in
-    rw (list-text (nodesOf (a .h)) (checkedOnce (gridOf (a .h) (a .lat .now) (a .lon .now))) (a .text .now) (short s))
-    (put-rest (put-rest (wrote-put (sheet-wrote (m .nodes .ensures) (w .write .ensures .0)) (y .bytes .ensures) (lent s)) (l .least .ensures) (lent s) (f .put) (d .saturating-add .ensures))
+    rw (list-text (nodeCountOr0 (a .h)) (checkedOnce (gridOf (a .h) (a .lat .now) (a .lon .now))) (a .text .now) (short s))
+    (put-rest (put-rest (wrote-put (sheet-wrote (m .node-count .ensures) (w .write .ensures .0)) (y .bytes .ensures) (lent s)) (l .least .ensures) (lent s) (f .put) (d .saturating-add .ensures))
     (k .least2 .ensures) (lent s) z (c .saturating-add2 .ensures))
 
 pub put-list-spec : {M : Type 1} → statement M
 put-list-spec =
     tie.close
     (tie.spec
-    nodes-requires
+    node-count-requires
     cast-t14
     write-requires
     bytes-requires

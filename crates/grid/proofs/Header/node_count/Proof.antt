@@ -3,12 +3,12 @@ use borrow.Author.Tests.{eq-eqb, ne-eqb}
 use native.Mathlib.Omega.{arith}
 use Prim.Native.Nat.{_*_}
 use mathlib.Core.Path.{_≡_, sym, ap, _∙_}
-use Rattle.grid.specs.Rules.{brokenRule, nodesOf}
+use Rattle.grid.specs.Rules.{brokenRule, nodeCountOr0}
 use Rattle.grid.specs.Needs.{Extent}
 use Rattle.grid.specs.declared.Shape.{Shape}
 use Rattle.grid.proofs.RuleLaws.{rules-hold, extent}
-use Rattle.grid.proofs.Header.nodes.Statement.{statement}
-use Rattle.grid.proofs.Header.nodes.Tie as tie
+use Rattle.grid.proofs.Header.node_count.Statement.{statement}
+use Rattle.grid.proofs.Header.node_count.Tie as tie
 
 unbroken : (c : tie.After-struct-known) → brokenRule (c .before .before .before .before .args .self) ≡ 0
 unbroken c = sym (c .before .before .before .broken-rule .ensures) ∙ c .before .before .if1 .taken
@@ -26,12 +26,12 @@ mul-result : tie.Need-mul-result
 mul-result c = omega (arith, sizes c)
 
 returns : tie.Need-returns
-unfolding nodesOf
+unfolding nodeCountOr0
 returns c = (rw (eq-eqb _ 0 (unbroken c)) (ap (λ (s : Shape). s .rows * s .cols) (c .before .shape .ensures)), sizes c .nodes)
 
 returns-2 : tie.Need-returns-2
-unfolding nodesOf
+unfolding nodeCountOr0
 returns-2 c = (rw (ne-eqb _ 0 (λ e. c .if1 .left (c .before .broken-rule .ensures ∙ e))), omega arith)
 
-pub nodes-spec : {M : Type 1} → statement M
-nodes-spec = tie.close (tie.spec broken-rule-requires shape-requires mul-result returns returns-2)
+pub node-count-spec : {M : Type 1} → statement M
+node-count-spec = tie.close (tie.spec broken-rule-requires shape-requires mul-result returns returns-2)
