@@ -33,14 +33,23 @@ extern "C" {
 
 /* The numbers of the refusals, and their places. */
 enum {
-    DAGGLEHURST_FORM = 1,      /* a line of a grid's text is missing, extra or not of its form: its line, from 1 */
+    DAGGLEHURST_FORM = 1,      /* a line of a grid's text is missing, extra or not of its form: its line, from 1.
+                                * In the refusals of dagglehurst_convert: a way that does not exist */
     DAGGLEHURST_RULE = 2,      /* a rule of the header is broken: the first such rule, 1 to 9 */
     DAGGLEHURST_RANGE = 3,     /* a shift is beyond 6,000,000 either way: the lowest such node, from 0 */
     DAGGLEHURST_STEEP = 4,     /* a node is too steep to its east or north neighbour: the lowest such node */
     DAGGLEHURST_NODE_ROOM = 5, /* lat or lon has fewer than rows x cols elements: rows x cols */
     DAGGLEHURST_OFF_GRID = 6,  /* the NAD 27 point is off the grid: 0 */
     DAGGLEHURST_NO_POINT = 7,  /* no point of the grid has this NAD 83 figure as its answer: 0 */
-    DAGGLEHURST_ROOM = 8       /* a slice that is lent for points or answers is too short: the elements needed */
+    DAGGLEHURST_ROOM = 8       /* a slice is too short: the elements needed. The slice is the room for a text (its elements are
+                                * bytes), the answer, points, answers or refusals, the header that is read into, or the line or
+                                * the state of a list in pieces */
+};
+
+/* The ways of dagglehurst_convert. 0 is none, so that a way that nobody has filled in is refused. */
+enum {
+    DAGGLEHURST_TO83 = 1, /* a NAD 27 point to its NAD 83 figure */
+    DAGGLEHURST_TO27 = 2  /* a NAD 83 figure back to its NAD 27 point */
 };
 
 /* The numbers of a header. */
@@ -49,6 +58,11 @@ enum {
 #define DAGGLEHURST_MAX_NODES 2048
 /* No text that is accepted is longer. Read one byte more of a file, so that a longer one is not judged by its first part. */
 #define DAGGLEHURST_MAX_TEXT 48000
+/* The bytes of the line, and the numbers of the state, of a list in pieces. */
+#define DAGGLEHURST_LINE 65
+#define DAGGLEHURST_STATE 3
+/* No line of a list is longer, with its newline: room for so many bytes for each byte of a piece is always enough. */
+#define DAGGLEHURST_MAX_REPLY 47
 
 /* 0 where the call answered, or the number of the refusal. */
 static inline unsigned dagglehurst_refusal(uint64_t reply) { return (unsigned)(reply & 255); }
@@ -83,25 +97,70 @@ uint64_t dagglehurst_to83(const int64_t *header, size_t header_length, const int
 uint64_t dagglehurst_to27(const int64_t *header, size_t header_length, const int64_t *lat, size_t lat_length, const int64_t *lon,
                           size_t lon_length, int64_t north, int64_t east, int64_t *answer, size_t answer_length);
 
-/* Converts many NAD 27 points with one check of the grid. `points` has the latitude and the longitude of one point after the other:
- * points_length / 2 points, n. For each point k: where it is on the grid, writes its NAD 83 figure to answers[2k] and
- * answers[2k + 1], and 0 to refusals[k]; else leaves both answers as they were, and writes 6 to refusals[k]. Answers n.
- * Refuses 2, 5, 3, 4, then 8: with place points_length + 1 where points_length is odd, with 2n where `answers` has fewer than 2n
- * elements, with n where `refusals` has fewer than n. */
-uint64_t dagglehurst_to83_all(const int64_t *header, size_t header_length, const int64_t *lat, size_t lat_length, const int64_t *lon,
-                              size_t lon_length, const int64_t *points, size_t points_length, int64_t *answers,
-                              size_t answers_length, uint8_t *refusals, size_t refusals_length);
-
-/* The same from NAD 83 figures back to NAD 27 points, with 7 for a figure that is no point's answer. */
-uint64_t dagglehurst_to27_all(const int64_t *header, size_t header_length, const int64_t *lat, size_t lat_length, const int64_t *lon,
-                              size_t lon_length, const int64_t *points, size_t points_length, int64_t *answers,
-                              size_t answers_length, uint8_t *refusals, size_t refusals_length);
+/* Converts many requests, both ways, with one check of the grid. There are ways_length requests, n. Request k is the way ways[k] and
+ * the latitude points[2k] and longitude points[2k + 1]. Where it has an answer, writes it to answers[2k] and answers[2k + 1], and 0
+ * to refusals[k]; else leaves both answers as they were, and writes the number of its refusal to refusals[k]: 6 or 7, or 1 for a way
+ * that does not exist. Answers n.
+ * Refuses 2, 5, 3, 4, with no requests too; then 8: with place 2n where `points` or `answers` has fewer than 2n elements, with n
+ * where `refusals` has fewer than n. Numbers of `points` behind the first 2n are not looked at. */
+uint64_t dagglehurst_convert(const int64_t *header, size_t header_length, const int64_t *lat, size_t lat_length, const int64_t *lon,
+                             size_t lon_length, const uint8_t *ways, size_t ways_length, const int64_t *points,
+                             size_t points_length, int64_t *answers, size_t answers_length, uint8_t *refusals,
+                             size_t refusals_length);
 
 /* Runs the list over request lines (`to83=LAT,LON` or `to27=LAT,LON`, each ended by a newline). Writes the whole list, from `sheet=`
  * to `done=`, to the front of `room`. Answers the number of bytes.
  * Refuses 2, 5, 3, 4, then 8 (place: the bytes needed). */
 uint64_t dagglehurst_list(const int64_t *header, size_t header_length, const int64_t *lat, size_t lat_length, const int64_t *lon,
                           size_t lon_length, const uint8_t *requests, size_t requests_length, uint8_t *room, size_t room_length);
+
+/* THE LIST IN PIECES: the same list as its requests come, in pieces cut anywhere. What dagglehurst_begin writes, then dagglehurst_feed
+ * for each piece, then dagglehurst_finish, is byte for byte what dagglehurst_list writes for the pieces joined.
+ *
+ * Between the calls the list is in the caller's memory:
+ *   line   at least 65 bytes: the line whose newline has not come yet, or 65 bytes of a longer one, which is refused whatever follows.
+ *   state  at least three numbers: how many bytes of `line` these are, the lines answered, the lines refused. Three zeros are a list
+ *          that no piece was fed to; `line` then may hold anything.
+ * Any memory of these lengths is taken as a list: a length below 0 as 0, one above 65 as 65, and any totals, which stay at 2^63 - 1
+ * when they have come there.
+ *
+ *     uint8_t line[DAGGLEHURST_LINE], piece[1024], room[1024 * DAGGLEHURST_MAX_REPLY];
+ *     int64_t state[DAGGLEHURST_STATE] = {0, 0, 0};
+ *     size_t n;
+ *     uint64_t reply = dagglehurst_begin(header, 6, lat, 2048, lon, 2048, room, sizeof room);
+ *     while (dagglehurst_refusal(reply) == 0) {
+ *         fwrite(room, 1, dagglehurst_value(reply), stdout);
+ *         n = fread(piece, 1, sizeof piece, stdin);
+ *         if (n == 0)
+ *             break;
+ *         reply = dagglehurst_feed(header, 6, lat, 2048, lon, 2048, line, sizeof line, state, 3, piece, n, room, sizeof room);
+ *     }
+ *     if (dagglehurst_refusal(reply) == 0) {
+ *         reply = dagglehurst_finish(line, sizeof line, state, 3, room, sizeof room);
+ *         fwrite(room, 1, dagglehurst_value(reply), stdout);
+ *     }
+ */
+
+/* Begins a list. Writes its first line, `sheet=` and the number of nodes, to the front of `room`. Answers the number of bytes.
+ * Refuses 2, 5, 3, 4, then 8 (place: the bytes needed). */
+uint64_t dagglehurst_begin(const int64_t *header, size_t header_length, const int64_t *lat, size_t lat_length, const int64_t *lon,
+                           size_t lon_length, uint8_t *room, size_t room_length);
+
+/* Feeds the next piece of the requests to a list. Writes the replies to the lines that end in it to the front of `room`, the line
+ * that is then under way to the front of `line` (bytes behind it stay), and its three numbers to the front of `state`. Answers the
+ * number of bytes written to `room`.
+ * Refuses 2, 5, 3, 4, for an empty piece too: every call checks the grid; then 8, with place 65 where `line` has fewer than 65
+ * bytes, 3 where `state` has fewer than three numbers, and the bytes needed where `room` is too short. A piece that was refused can
+ * be fed again. */
+uint64_t dagglehurst_feed(const int64_t *header, size_t header_length, const int64_t *lat, size_t lat_length, const int64_t *lon,
+                          size_t lon_length, uint8_t *line, size_t line_length, int64_t *state, size_t state_length,
+                          const uint8_t *piece, size_t piece_length, uint8_t *room, size_t room_length);
+
+/* Ends a list. Writes its last lines to the front of `room`: `no=1` if a line is under way, since that has no newline, and the totals.
+ * Answers the number of bytes. The list stays as it was: three zeros begin another.
+ * Refuses 8, with the places of dagglehurst_feed. */
+uint64_t dagglehurst_finish(const uint8_t *line, size_t line_length, const int64_t *state, size_t state_length, uint8_t *room,
+                            size_t room_length);
 
 #ifdef __cplusplus
 }

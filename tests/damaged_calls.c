@@ -1,4 +1,4 @@
-/* Damaged calls: each of the eight functions gets short slices, NULL, absurd numbers and damaged texts. A damaged call has to be
+/* Damaged calls: each of the ten functions gets short slices, NULL, absurd numbers and damaged texts. A damaged call has to be
  * refused with the number and the place that dagglehurst.h says, and has to leave all lent memory as it was.
  *
  * A call is described by its slices. Each slice is lent from a block of its own that is filled with a pattern. After the call the
@@ -30,14 +30,15 @@ static unsigned long checks, failures;
 
 /* ---- Calls ---- */
 
-enum function { READ, WRITE, CHECK, TO83, TO27, TO83_ALL, TO27_ALL, LIST, FUNCTIONS };
+/* From WRITE on they are lent a grid. */
+enum function { READ, FINISH, WRITE, CHECK, TO83, TO27, CONVERT, LIST, BEGIN, FEED, FUNCTIONS };
 
-static const char *const names[FUNCTIONS] = {"read", "write", "check", "to83", "to27", "to83_all", "to27_all", "list"};
+static const char *const names[FUNCTIONS] = {"read", "finish", "write", "check", "to83", "to27", "convert", "list", "begin", "feed"};
 
-/* What a call lends. INPUT is the text, the points or the requests; OUTPUT the room, the answer or the answers. */
-enum { HEADER, LAT, LON, INPUT, OUTPUT, REFUSALS, SLICES };
+/* What a call lends. INPUT is the text, the points, the requests or a piece of them; OUTPUT the room, the answer or the answers. */
+enum { HEADER, LAT, LON, WAYS, INPUT, OUTPUT, REFUSALS, LINE, STATE, SLICES };
 
-static const char *const slice_names[SLICES] = {"header", "lat", "lon", "input", "output", "refusals"};
+static const char *const slice_names[SLICES] = {"header", "lat", "lon", "ways", "input", "output", "refusals", "line", "state"};
 
 struct slice {
     size_t element, length; /* bytes of an element, number of elements */
@@ -96,6 +97,8 @@ static uint64_t make(const struct call *call, const struct lent *lent) {
     switch (call->function) {
     case READ:
         return dagglehurst_read(SLICE(INPUT), GRID);
+    case FINISH:
+        return dagglehurst_finish(SLICE(LINE), SLICE(STATE), SLICE(OUTPUT));
     case WRITE:
         return dagglehurst_write(GRID, SLICE(OUTPUT));
     case CHECK:
@@ -104,12 +107,14 @@ static uint64_t make(const struct call *call, const struct lent *lent) {
         return dagglehurst_to83(GRID, call->north, call->east, SLICE(OUTPUT));
     case TO27:
         return dagglehurst_to27(GRID, call->north, call->east, SLICE(OUTPUT));
-    case TO83_ALL:
-        return dagglehurst_to83_all(GRID, SLICE(INPUT), SLICE(OUTPUT), SLICE(REFUSALS));
-    case TO27_ALL:
-        return dagglehurst_to27_all(GRID, SLICE(INPUT), SLICE(OUTPUT), SLICE(REFUSALS));
-    default:
+    case CONVERT:
+        return dagglehurst_convert(GRID, SLICE(WAYS), SLICE(INPUT), SLICE(OUTPUT), SLICE(REFUSALS));
+    case LIST:
         return dagglehurst_list(GRID, SLICE(INPUT), SLICE(OUTPUT));
+    case BEGIN:
+        return dagglehurst_begin(GRID, SLICE(OUTPUT));
+    default:
+        return dagglehurst_feed(GRID, SLICE(LINE), SLICE(STATE), SLICE(INPUT), SLICE(OUTPUT));
     }
 }
 
@@ -145,7 +150,7 @@ static void expect_refusal(struct call call, const char *what, unsigned refusal,
 
 /* ---- The undamaged calls: the bulletin's cell ---- */
 
-enum { NODES = 4, POINTS = 3 };
+enum { NODES = 4, POINTS = 7 };
 
 static const char text[] = "from=NAD27\nto=NAD83\nsouth=117900000\nwest=-298800000\ndlat=450000\ndlon=450000\nrows=2\ncols=2\n"
                            "node=53000,42000\nnode=57000,49000\nnode=51000,41000\nnode=57000,49000\nend=4\n";
@@ -153,7 +158,18 @@ static const char requests[] = "to83=118210250,-298581930\nto27=11821079228,-298
                                "to27=11821079229,-29858147963\nto83=1\n";
 static const char list[] = "sheet=4\nok83=11821079228,-29858147963\nok27=118210250,-298581930\nno=6\nno=7\nno=1\ndone=2,3\n";
 
+
+/* The same list in pieces: its first line, a piece that ends one line and begins another, and its last lines. */
+static const char sheet_line[] = "sheet=4\n";
+static const char piece[] = "-298581930\nto27=11821079228,-29858147963\nto83=117899999,-298581930\nto83=1";
+static const char replies[] = "ok83=11821079228,-29858147963\nok27=118210250,-298581930\nno=6\n";
+static const char last_lines[] = "no=1\ndone=2,4\n";
+static const uint8_t line[DAGGLEHURST_LINE + 1] = "to83=118210250,", next_line[6] = "to83=1";
+static const int64_t state[DAGGLEHURST_STATE + 1] = {15, 7, 8, INT64_MIN}, next_state[DAGGLEHURST_STATE] = {6, 9, 9};
+static const int64_t last_state[DAGGLEHURST_STATE + 1] = {15, 2, 3, INT64_MAX};
+
 enum { TEXT = sizeof text - 1, REQUESTS = sizeof requests - 1, ALL_LIST = sizeof list - 1 };
+enum { SHEET_LINE = sizeof sheet_line - 1, PIECE = sizeof piece - 1, REPLIES = sizeof replies - 1, LAST_LINES = sizeof last_lines - 1 };
 
 /* One number more than is looked at, and an absurd one. */
 static const int64_t header[DAGGLEHURST_HEADER + 1] = {117900000, -298800000, 450000, 450000, 2, 2, INT64_MIN};
@@ -163,14 +179,13 @@ static const int64_t lon[NODES + 1] = {42000, 49000, 41000, 49000, INT64_MIN};
 static const int64_t mast27[2] = {118210250, -298581930};
 static const int64_t mast83[2] = {11821079228, -29858147963};
 
-/* The point in the middle is refused, and its two answers stay. */
-static const int64_t points27[2 * POINTS] = {118210250, -298581930, INT64_MIN, INT64_MAX, 118350000, -298350000};
-static const int64_t points83[2 * POINTS] = {11821079228, -29858147963, INT64_MIN, INT64_MAX, 11835057000, -29834951000};
-static const int64_t answers[2 * POINTS + 1] = {-1, -2, -3, -4, -5, -6, -7};
-static const int64_t answers83[2 * POINTS] = {11821079228, -29858147963, -3, -4, 11835057000, -29834951000};
-static const int64_t answers27[2 * POINTS] = {118210250, -298581930, -3, -4, 118350000, -298350000};
-static const uint8_t refusals83[POINTS] = {0, 6, 0};
-static const uint8_t refusals27[POINTS] = {0, 7, 0};
+/* Both ways, mixed, and ways that do not exist. Where a request is refused, its two answers stay. */
+static const uint8_t ways[POINTS] = {DAGGLEHURST_TO83, 0, DAGGLEHURST_TO27, DAGGLEHURST_TO83, 3, DAGGLEHURST_TO27, 255};
+static const int64_t points[2 * POINTS] = {118210250, -298581930, 118210250, -298581930, 11821079228, -29858147963, INT64_MIN,
+                                           INT64_MAX, 118350000, -298350000, INT64_MIN, INT64_MAX, 11821079228, -29858147963};
+static const int64_t stood[2 * POINTS + 1] = {-1, -2, -3, -4, -5, -6, -7, -8, -9, -10, -11, -12, -13, -14, -15};
+static const int64_t answers[2 * POINTS] = {11821079228, -29858147963, -3, -4, 118210250, -298581930, -7, -8, -9, -10, -11, -12, -13, -14};
+static const uint8_t refusals[POINTS] = {0, 1, 0, 6, 1, 7, 1};
 
 /* A slice that is only read, and one that is written and has an element more than needed. */
 #define READS(array, n) {.element = sizeof((array)[0]), .length = (n), .before = (array)}
@@ -180,18 +195,24 @@ static const uint8_t refusals27[POINTS] = {0, 7, 0};
 #define READS_GRID READS(header, DAGGLEHURST_HEADER + 1), READS(lat, NODES + 1), READS(lon, NODES + 1)
 
 static const struct call undamaged[FUNCTIONS] = {
-    {READ, {WRITES(header, DAGGLEHURST_HEADER), WRITES(lat, NODES), WRITES(lon, NODES), READS(text, TEXT)}, 0, 0, NODES},
+    {READ, {WRITES(header, DAGGLEHURST_HEADER), WRITES(lat, NODES), WRITES(lon, NODES), [INPUT] = READS(text, TEXT)}, 0, 0, NODES},
+    {FINISH,
+     {[OUTPUT] = WRITES(last_lines, LAST_LINES), [LINE] = READS(line, DAGGLEHURST_LINE + 1), READS(last_state, DAGGLEHURST_STATE + 1)},
+     0, 0, LAST_LINES},
     {WRITE, {READS_GRID, [OUTPUT] = WRITES(text, TEXT)}, 0, 0, TEXT},
     {CHECK, {READS_GRID}, 0, 0, NODES},
     {TO83, {READS_GRID, [OUTPUT] = WRITES(mast83, 2)}, 118210250, -298581930, 1},
     {TO27, {READS_GRID, [OUTPUT] = WRITES(mast27, 2)}, 11821079228, -29858147963, 1},
-    {TO83_ALL,
-     {READS_GRID, READS(points27, 2 * POINTS), WRITES_OVER(answers, answers83, 2 * POINTS), WRITES(refusals83, POINTS)},
+    {CONVERT,
+     {READS_GRID, READS(ways, POINTS), READS(points, 2 * POINTS), WRITES_OVER(stood, answers, 2 * POINTS), WRITES(refusals, POINTS)},
      0, 0, POINTS},
-    {TO27_ALL,
-     {READS_GRID, READS(points83, 2 * POINTS), WRITES_OVER(answers, answers27, 2 * POINTS), WRITES(refusals27, POINTS)},
-     0, 0, POINTS},
-    {LIST, {READS_GRID, READS(requests, REQUESTS), WRITES(list, ALL_LIST)}, 0, 0, ALL_LIST},
+    {LIST, {READS_GRID, [INPUT] = READS(requests, REQUESTS), WRITES(list, ALL_LIST)}, 0, 0, ALL_LIST},
+    {BEGIN, {READS_GRID, [OUTPUT] = WRITES(sheet_line, SHEET_LINE)}, 0, 0, SHEET_LINE},
+    {FEED,
+     {READS_GRID, [INPUT] = READS(piece, PIECE), WRITES(replies, REPLIES),
+      [LINE] = {.element = 1, .length = DAGGLEHURST_LINE + 1, .before = line, .after = next_line, .after_length = sizeof next_line},
+      WRITES_OVER(state, next_state, DAGGLEHURST_STATE)},
+     0, 0, REPLIES},
 };
 
 static void test_undamaged(void) {
@@ -201,7 +222,7 @@ static void test_undamaged(void) {
 
 /* ---- Slices that are too short ---- */
 
-enum { ANY = -1 }; /* every function but the reader */
+enum { ANY = -1 }; /* every function that is lent a grid */
 
 static const struct {
     int function, slice;
@@ -222,14 +243,20 @@ static const struct {
     {WRITE, OUTPUT, 0, 8, TEXT}, {WRITE, OUTPUT, 1, 8, TEXT}, {WRITE, OUTPUT, TEXT - 1, 8, TEXT},
     {TO83, OUTPUT, 0, 8, 2}, {TO83, OUTPUT, 1, 8, 2},
     {TO27, OUTPUT, 0, 8, 2}, {TO27, OUTPUT, 1, 8, 2},
-    {TO83_ALL, INPUT, 1, 8, 2}, {TO83_ALL, INPUT, 3, 8, 4}, {TO83_ALL, INPUT, 5, 8, 6},
-    {TO83_ALL, OUTPUT, 0, 8, 6}, {TO83_ALL, OUTPUT, 5, 8, 6}, {TO83_ALL, REFUSALS, 0, 8, 3}, {TO83_ALL, REFUSALS, 2, 8, 3},
-    {TO27_ALL, INPUT, 1, 8, 2}, {TO27_ALL, INPUT, 3, 8, 4}, {TO27_ALL, INPUT, 5, 8, 6},
-    {TO27_ALL, OUTPUT, 0, 8, 6}, {TO27_ALL, OUTPUT, 5, 8, 6}, {TO27_ALL, REFUSALS, 0, 8, 3}, {TO27_ALL, REFUSALS, 2, 8, 3},
+    {CONVERT, INPUT, 0, 8, 2 * POINTS}, {CONVERT, INPUT, 1, 8, 2 * POINTS}, {CONVERT, INPUT, 2 * POINTS - 1, 8, 2 * POINTS},
+    {CONVERT, OUTPUT, 0, 8, 2 * POINTS}, {CONVERT, OUTPUT, 1, 8, 2 * POINTS}, {CONVERT, OUTPUT, 2 * POINTS - 1, 8, 2 * POINTS},
+    {CONVERT, REFUSALS, 0, 8, POINTS}, {CONVERT, REFUSALS, 1, 8, POINTS}, {CONVERT, REFUSALS, POINTS - 1, 8, POINTS},
     {LIST, OUTPUT, 0, 8, ALL_LIST}, {LIST, OUTPUT, 1, 8, ALL_LIST}, {LIST, OUTPUT, ALL_LIST - 1, 8, ALL_LIST},
+    {BEGIN, OUTPUT, 0, 8, SHEET_LINE}, {BEGIN, OUTPUT, 1, 8, SHEET_LINE}, {BEGIN, OUTPUT, SHEET_LINE - 1, 8, SHEET_LINE},
+    {FEED, OUTPUT, 0, 8, REPLIES}, {FEED, OUTPUT, 1, 8, REPLIES}, {FEED, OUTPUT, REPLIES - 1, 8, REPLIES},
+    {FEED, LINE, 0, 8, 65}, {FEED, LINE, 15, 8, 65}, {FEED, LINE, 64, 8, 65},
+    {FEED, STATE, 0, 8, 3}, {FEED, STATE, 1, 8, 3}, {FEED, STATE, 2, 8, 3},
+    {FINISH, OUTPUT, 0, 8, LAST_LINES}, {FINISH, OUTPUT, 1, 8, LAST_LINES}, {FINISH, OUTPUT, LAST_LINES - 1, 8, LAST_LINES},
+    {FINISH, LINE, 0, 8, 65}, {FINISH, LINE, 15, 8, 65}, {FINISH, LINE, 64, 8, 65},
+    {FINISH, STATE, 0, 8, 3}, {FINISH, STATE, 1, 8, 3}, {FINISH, STATE, 2, 8, 3},
 };
 
-static int concerns(int wanted, int function) { return wanted == ANY ? function != READ : wanted == function; }
+static int concerns(int wanted, int function) { return wanted == ANY ? function >= WRITE : wanted == function; }
 
 static void test_short_slices(void) {
     for (size_t k = 0; k < COUNT(short_slices); k++)
@@ -243,17 +270,17 @@ static void test_short_slices(void) {
             }
 }
 
-/* Nothing at all is lent. The header then counts as six zeros; the reader has no room for one. */
+/* Nothing at all is lent. The header then counts as six zeros; the reader has no room for one, and the end of a list has no list. */
 static void test_nothing_lent(void) {
     for (int f = 0; f < FUNCTIONS; f++) {
         struct call call = undamaged[f];
         for (int s = 0; s < SLICES; s++)
             call.slices[s].length = 0;
-        expect_refusal(call, "nothing lent", f == READ ? 8 : 2, f == READ ? 6 : 3);
+        expect_refusal(call, "nothing lent", f < WRITE ? 8 : 2, f == READ ? 6 : f == FINISH ? 65 : 3);
     }
 }
 
-/* An empty input is no damage to a list or an array: there is nothing to convert. */
+/* An empty input is no damage to a list, a piece of one or a batch: there is nothing to convert. */
 static void test_empty_input(void) {
     static const char empty_list[] = "sheet=4\ndone=0,0\n";
     struct call call = undamaged[LIST];
@@ -261,11 +288,65 @@ static void test_empty_input(void) {
     call.slices[OUTPUT] = (struct slice)WRITES(empty_list, sizeof empty_list - 1);
     expect_answer(&call, "no requests", sizeof empty_list - 1);
 
-    for (int f = TO83_ALL; f <= TO27_ALL; f++) {
-        call = undamaged[f];
-        for (int s = INPUT; s <= REFUSALS; s++)
-            call.slices[s] = (struct slice){.element = call.slices[s].element};
-        expect_answer(&call, "no points", 0);
+    call = undamaged[FEED];
+    call.slices[INPUT].length = 0;
+    call.slices[OUTPUT] = (struct slice){.element = 1};
+    call.slices[LINE].after = call.slices[STATE].after = NULL;
+    expect_answer(&call, "an empty piece", 0);
+
+    call = undamaged[CONVERT];
+    for (int s = WAYS; s <= REFUSALS; s++)
+        call.slices[s] = (struct slice){.element = call.slices[s].element};
+    expect_answer(&call, "no requests", 0);
+}
+
+/* Fewer ways are fewer requests: points, answers and refusals behind them are left alone. */
+static void test_fewer_ways(void) {
+    for (size_t n = 0; n < POINTS; n++) {
+        struct call call = undamaged[CONVERT];
+        call.slices[WAYS].length = n;
+        call.slices[OUTPUT].after_length = 2 * n;
+        call.slices[REFUSALS].after_length = n;
+        expect_answer(&call, "fewer ways", n);
+    }
+}
+
+/* ---- Lists that no call has left ---- */
+
+/* Any length and any totals, with the line `to83=1182102..` and nothing behind it. A newline is fed, which ends the line: it is refused
+ * 1 whatever bytes are counted to it. */
+static const struct {
+    int64_t length, answered, refused, refused_then;
+    const char *last_lines;
+} lists[] = {
+    {0, 0, 0, 1, "done=0,0\n"}, {-1, 0, 0, 1, "done=0,0\n"}, {INT64_MIN, 1, 2, 3, "done=1,2\n"},
+    {15, 1, 2, 3, "no=1\ndone=1,3\n"}, {64, 1, 2, 3, "no=1\ndone=1,3\n"}, {65, 1, 2, 3, "no=1\ndone=1,3\n"},
+    {66, 1, 2, 3, "no=1\ndone=1,3\n"}, {INT64_MAX, 1, 2, 3, "no=1\ndone=1,3\n"}, {INT64_C(1) << 32, 1, 2, 3, "no=1\ndone=1,3\n"},
+    {0, -7, -8, -7, "done=-7,-8\n"}, {1, -7, -1, 0, "no=1\ndone=-7,0\n"},
+    {0, INT64_MIN, INT64_MAX, INT64_MAX, "done=-9223372036854775808,9223372036854775807\n"},
+    {9, INT64_MAX, INT64_MAX, INT64_MAX, "no=1\ndone=9223372036854775807,9223372036854775807\n"},
+};
+
+static void test_lists(void) {
+    static const char ended[] = "\n", no[] = "no=1\n";
+    for (size_t k = 0; k < COUNT(lists); k++) {
+        const int64_t before[DAGGLEHURST_STATE] = {lists[k].length, lists[k].answered, lists[k].refused};
+        const int64_t after[DAGGLEHURST_STATE] = {0, lists[k].answered, lists[k].refused_then};
+        size_t last = strlen(lists[k].last_lines);
+        char what[64];
+        snprintf(what, sizeof what, "list %zu", k);
+
+        struct call feed = undamaged[FEED];
+        feed.slices[INPUT] = (struct slice)READS(ended, 1);
+        feed.slices[OUTPUT] = (struct slice)WRITES(no, sizeof no - 1);
+        feed.slices[LINE] = (struct slice)READS(line, DAGGLEHURST_LINE);
+        feed.slices[STATE] = (struct slice){sizeof before[0], DAGGLEHURST_STATE, before, after, DAGGLEHURST_STATE};
+        expect_answer(&feed, what, sizeof no - 1);
+
+        struct call finish = undamaged[FINISH];
+        finish.slices[STATE] = (struct slice)READS(before, DAGGLEHURST_STATE);
+        finish.slices[OUTPUT] = (struct slice)WRITES(lists[k].last_lines, last);
+        expect_answer(&finish, what, last);
     }
 }
 
@@ -360,11 +441,11 @@ static const struct {
     {TO27, 118210250, -298581930}, {TO27, 0, 0},
 };
 
-/* Each is refused whether or not there is room for an answer, alone and as the only point of an array. */
+/* Each is refused whether or not there is room for an answer, alone and as the only request of a batch. */
 static void test_points(void) {
     for (size_t k = 0; k < COUNT(lost_points); k++) {
         int to83 = lost_points[k].function == TO83;
-        uint8_t refusal = to83 ? 6 : 7;
+        uint8_t refusal = to83 ? 6 : 7, way = to83 ? DAGGLEHURST_TO83 : DAGGLEHURST_TO27;
         int64_t point[2] = {lost_points[k].north, lost_points[k].east};
         char what[64];
         snprintf(what, sizeof what, "point %zu", k);
@@ -376,7 +457,8 @@ static void test_points(void) {
         one.slices[OUTPUT].length = 0;
         expect_refusal(one, what, refusal, 0);
 
-        struct call all = undamaged[to83 ? TO83_ALL : TO27_ALL];
+        struct call all = undamaged[CONVERT];
+        all.slices[WAYS] = (struct slice)READS(&way, 1);
         all.slices[INPUT] = (struct slice)READS(point, 2);
         all.slices[OUTPUT].after = NULL;
         all.slices[REFUSALS] = (struct slice)WRITES(&refusal, 1);
@@ -455,33 +537,56 @@ static void test_every_byte(void) {
 
 /* ---- The order of the refusals: two damages in one call ---- */
 
-static void test_order(void) {
+/* A grid that fails one check more each time, and no room for what the call writes. */
+static void expect_order(struct call call) {
     static const int64_t no_rows[DAGGLEHURST_HEADER] = {0, 0, 1000, 1000, 0, 2};
     static const int64_t beyond[NODES] = {0, 0, 0, 6000001}, steep[NODES] = {0, 2812501, 0, 0};
-    for (int f = WRITE; f < FUNCTIONS; f++) {
-        struct call call = undamaged[f];
+    call.slices[OUTPUT].length = 0;
+    call.slices[REFUSALS].length = 0;
+    call.slices[LINE].length = 0;
+    call.slices[STATE].length = 0;
+    call.slices[LAT] = (struct slice)READS(steep, NODES);
+    expect_refusal(call, "steep, and no room", 4, 0);
+    call.slices[LON] = (struct slice)READS(beyond, NODES);
+    expect_refusal(call, "beyond the range, and steep", 3, 3);
+    call.slices[LAT].length = NODES - 1;
+    expect_refusal(call, "short, and beyond the range", 5, 4);
+    call.slices[HEADER] = (struct slice)READS(no_rows, DAGGLEHURST_HEADER);
+    expect_refusal(call, "header, and short", 2, 5);
+}
+
+static void test_order(void) {
+    for (int f = WRITE; f < FUNCTIONS; f++)
+        expect_order(undamaged[f]);
+
+    /* where there is nothing to convert too */
+    struct call no_requests = undamaged[CONVERT], no_lines = undamaged[LIST], no_bytes = undamaged[FEED];
+    no_requests.slices[WAYS].length = 0;
+    expect_order(no_requests);
+    no_lines.slices[INPUT].length = 0;
+    expect_order(no_lines);
+    no_bytes.slices[INPUT].length = 0;
+    expect_order(no_bytes);
+
+    struct call call = undamaged[CONVERT];
+    call.slices[REFUSALS].length = 0;
+    call.slices[OUTPUT].length = 2 * POINTS - 1;
+    expect_refusal(call, "answers, and refusals", 8, 2 * POINTS);
+    call.slices[OUTPUT] = undamaged[CONVERT].slices[OUTPUT];
+    call.slices[INPUT].length = 2 * POINTS - 1;
+    expect_refusal(call, "points, and refusals", 8, 2 * POINTS);
+
+    static const enum function of_lists[] = {FEED, FINISH};
+    for (size_t k = 0; k < COUNT(of_lists); k++) {
+        call = undamaged[of_lists[k]];
         call.slices[OUTPUT].length = 0;
-        call.slices[REFUSALS].length = 0;
-        call.slices[LAT] = (struct slice)READS(steep, NODES);
-        expect_refusal(call, "steep, and no room", 4, 0);
-        call.slices[LON] = (struct slice)READS(beyond, NODES);
-        expect_refusal(call, "beyond the range, and steep", 3, 3);
-        call.slices[LAT].length = NODES - 1;
-        expect_refusal(call, "short, and beyond the range", 5, 4);
-        call.slices[HEADER] = (struct slice)READS(no_rows, DAGGLEHURST_HEADER);
-        expect_refusal(call, "header, and short", 2, 5);
+        call.slices[STATE].length = DAGGLEHURST_STATE - 1;
+        expect_refusal(call, "state, and room", 8, 3);
+        call.slices[LINE].length = DAGGLEHURST_LINE - 1;
+        expect_refusal(call, "line, and state", 8, 65);
     }
-    for (int f = TO83_ALL; f <= TO27_ALL; f++) {
-        struct call call = undamaged[f];
-        call.slices[REFUSALS].length = POINTS - 1;
-        call.slices[OUTPUT].length = 2 * POINTS - 1;
-        expect_refusal(call, "answers, and refusals", 8, 2 * POINTS);
-        call.slices[INPUT].length = 2 * POINTS - 1;
-        expect_refusal(call, "odd points, and answers", 8, 2 * POINTS);
-        call.slices[INPUT].length = 1;
-        expect_refusal(call, "one number, and answers", 8, 2);
-    }
-    struct call call = undamaged[READ];
+
+    call = undamaged[READ];
     call.slices[INPUT].length = 0;
     call.slices[HEADER].length = DAGGLEHURST_HEADER - 1;
     expect_refusal(call, "header, and text", 8, 6);
@@ -494,6 +599,8 @@ int main(void) {
     test_short_slices();
     test_nothing_lent();
     test_empty_input();
+    test_fewer_ways();
+    test_lists();
     test_headers();
     test_nodes();
     test_points();

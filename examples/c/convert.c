@@ -28,8 +28,9 @@ static void show(const char *what, uint64_t reply, const int64_t *point) {
         printf("%s: refusal %u, place %llu\n", what, dagglehurst_refusal(reply), (unsigned long long)dagglehurst_value(reply));
 }
 
-/* An array is converted with one check of the grid. Each point has a refusal of its own. */
+/* An array is converted with one check of the grid. Each point has a way and a refusal of its own. */
 static void show_array(size_t nodes) {
+    const uint8_t ways[POINTS] = {DAGGLEHURST_TO83, DAGGLEHURST_TO83, DAGGLEHURST_TO83, DAGGLEHURST_TO83};
     const int64_t points[2 * POINTS] = {
         117900000, -298800000, /* the southwest corner */
         118125000, -298575000, /* the middle of the cell */
@@ -39,8 +40,8 @@ static void show_array(size_t nodes) {
     int64_t answers[2 * POINTS];
     uint8_t refusals[POINTS];
 
-    uint64_t reply = dagglehurst_to83_all(header, DAGGLEHURST_HEADER, lat, nodes, lon, nodes, points, 2 * POINTS, answers,
-                                          2 * POINTS, refusals, POINTS);
+    uint64_t reply = dagglehurst_convert(header, DAGGLEHURST_HEADER, lat, nodes, lon, nodes, ways, POINTS, points, 2 * POINTS,
+                                         answers, 2 * POINTS, refusals, POINTS);
     printf("array: %llu points\n", (unsigned long long)dagglehurst_value(reply));
     for (size_t k = 0; k < POINTS; k++) {
         if (refusals[k] == 0)

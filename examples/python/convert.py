@@ -16,11 +16,12 @@ NUMBERS = [POINTER(c_int64), c_size_t]
 BYTES = [POINTER(c_uint8), c_size_t]
 GRID = 3 * NUMBERS
 POINT = [c_int64, c_int64]
+TO83 = 1  # the way to NAD 83 in dagglehurst.h; 2 is the way back
 for name, argtypes in {
     "read": BYTES + GRID,
     "to83": GRID + POINT + NUMBERS,
     "to27": GRID + POINT + NUMBERS,
-    "to83_all": GRID + NUMBERS + NUMBERS + BYTES,
+    "convert": GRID + BYTES + NUMBERS + NUMBERS + BYTES,
 }.items():
     function = getattr(dagglehurst, "dagglehurst_" + name)
     function.argtypes = argtypes
@@ -67,10 +68,11 @@ print(f"mast in NAD 83: {north},{east}")
 show("mast taken back", convert, "to27", grid, north, east)
 show("one figure north", convert, "to27", grid, north + 1, east)
 
-# Southwest corner, middle of the cell, a thousandth of an arc second off the grid, northeast corner. Each point has a refusal of its own.
+# Southwest corner, middle of the cell, a thousandth of an arc second off the grid, northeast corner. Each has a way and a refusal of its own.
+ways = (c_uint8 * 4)(TO83, TO83, TO83, TO83)
 points = (c_int64 * 8)(117900000, -298800000, 118125000, -298575000, 118350001, -298350000, 118350000, -298350000)
 answers, refusals = (c_int64 * 8)(), (c_uint8 * 4)()
-print("array:", call("to83_all", *grid, points, answers, refusals), "points")
+print("array:", call("convert", *grid, ways, points, answers, refusals), "points")
 for k, refusal in enumerate(refusals):
     print(f"point {k}:", f"refusal {refusal}" if refusal else f"{answers[2 * k]},{answers[2 * k + 1]}")
 

@@ -13,9 +13,12 @@ unsafe extern "C" {
         north: i64, east: i64, answer: Out, two: usize) -> u64;
     fn dagglehurst_to27(header: In, six: usize, lat: In, nlat: usize, lon: In, nlon: usize,
         north: i64, east: i64, answer: Out, two: usize) -> u64;
-    fn dagglehurst_to83_all(header: In, six: usize, lat: In, nlat: usize, lon: In, nlon: usize,
+    fn dagglehurst_convert(header: In, six: usize, lat: In, nlat: usize, lon: In, nlon: usize, ways: *const u8, nways: usize,
         points: In, npoints: usize, answers: Out, nanswers: usize, refusals: *mut u8, nrefusals: usize) -> u64;
 }
+
+/// The way to NAD 83 in dagglehurst.h; 2 is the way back.
+const TO83: u8 = 1;
 
 #[derive(Debug)]
 struct Refusal { number: u8, place: u64 }
@@ -57,11 +60,11 @@ impl Grid {
             north, east, to.as_mut_ptr(), to.len()) }).map(|_| to)
     }
 
-    /// One check of the grid for all points. Each point has a refusal of its own, or 0 and its answer.
-    fn to83_all(&self, points: &[Point], to: &mut [Point], refusals: &mut [u8]) -> Result<u64, Refusal> {
+    /// One check of the grid for all points. Each has a way and a refusal of its own, or 0 and its answer.
+    fn convert(&self, ways: &[u8], points: &[Point], to: &mut [Point], refusals: &mut [u8]) -> Result<u64, Refusal> {
         let (Grid { header: h, lat, lon }, p, to) = (self, points.as_flattened(), to.as_flattened_mut());
-        outcome(unsafe { dagglehurst_to83_all(h.as_ptr(), h.len(), lat.as_ptr(), lat.len(), lon.as_ptr(), lon.len(),
-            p.as_ptr(), p.len(), to.as_mut_ptr(), to.len(), refusals.as_mut_ptr(), refusals.len()) })
+        outcome(unsafe { dagglehurst_convert(h.as_ptr(), h.len(), lat.as_ptr(), lat.len(), lon.as_ptr(), lon.len(),
+            ways.as_ptr(), ways.len(), p.as_ptr(), p.len(), to.as_mut_ptr(), to.len(), refusals.as_mut_ptr(), refusals.len()) })
     }
 }
 
@@ -81,7 +84,7 @@ fn main() -> Result<(), Refusal> {
     // The southwest corner, the middle of the cell, a thousandth of an arc second off the grid, the northeast corner.
     let points = [[117900000, -298800000], [118125000, -298575000], [118350001, -298350000], [118350000, -298350000]];
     let (mut answers, mut refusals) = ([[0; 2]; 4], [0; 4]);
-    println!("array: {} points", grid.to83_all(&points, &mut answers, &mut refusals)?);
+    println!("array: {} points", grid.convert(&[TO83; 4], &points, &mut answers, &mut refusals)?);
     for (k, ([north, east], number)) in answers.iter().zip(refusals).enumerate() {
         if number == 0 { println!("point {k}: {north},{east}") } else { println!("point {k}: refusal {number}") }
     }

@@ -2,13 +2,13 @@
 
 use crate::coverage::{Call, Coverage};
 use crate::lent::{Element, Lent};
-use crate::library::{self, GridMemory, Many};
-use crate::model::{self, refuse, Grid, Refusal, Reply};
+use crate::library::{self, Batch, GridMemory};
+use crate::model::{self, refuse, Grid, Refusal, Reply, TO27, TO83};
 use crate::model_text::{self, Content};
 
 /// A grid lent to the library, and the model's verdict on it: the number of nodes or a refusal.
 pub struct Case {
-    memory: GridMemory,
+    pub memory: GridMemory,
     pub verdict: Reply<u64>,
 }
 
@@ -32,17 +32,31 @@ impl Case {
         self.verdict.map(|_| Grid::unjudged(header.original(), lat.original(), lon.original()))
     }
 
-    fn unchanged(&self) -> bool {
+    pub fn unchanged(&self) -> bool {
         self.memory.header.unchanged() && self.memory.lat.unchanged() && self.memory.lon.unchanged()
     }
 
-    fn account(&self) -> String {
+    pub fn account(&self) -> String {
         let GridMemory { header, lat, lon } = &self.memory;
         let start = |slice: &Lent<i64>| slice.original().iter().take(9).copied().collect::<Vec<_>>();
         let (few_lat, few_lon) = (start(lat), start(lon));
         format!("header {:?}, lat {few_lat:?} of {}, lon {few_lon:?} of {}", header.original(), lat.len(), lon.len())
     }
 }
+
+/// Nothing to convert, over a grid that fails a check: refused all the same.
+const EMPTY_BATCHES: [(u8, &str); 4] = [
+    (2, "batch: no requests, refused 2"),
+    (5, "batch: no requests, refused 5"),
+    (3, "batch: no requests, refused 3"),
+    (4, "batch: no requests, refused 4"),
+];
+const EMPTY_LISTS: [(u8, &str); 4] = [
+    (2, "list: no lines, refused 2"),
+    (5, "list: no lines, refused 5"),
+    (3, "list: no lines, refused 3"),
+    (4, "list: no lines, refused 4"),
+];
 
 pub struct Bench {
     pub comparisons: u64,
@@ -65,12 +79,12 @@ pub fn fail(call: Call, input: &str, expected: &str, got: &str) -> ! {
 }
 
 /// A text as it would be written in a program, cut to a readable length.
-fn shown(text: &[u8]) -> String {
+pub fn shown(text: &[u8]) -> String {
     let cut = &text[..text.len().min(300)];
     format!("\"{}\" ({} bytes)", cut.escape_ascii(), text.len())
 }
 
-fn nulls_of(memory: &GridMemory) -> [bool; 3] {
+pub fn nulls_of(memory: &GridMemory) -> [bool; 3] {
     [memory.header.is_null(), memory.lat.is_null(), memory.lon.is_null()]
 }
 
@@ -80,7 +94,7 @@ impl Bench {
     }
 
     /// Compares a reply: the refusal in the lowest 8 bits, the value or place above them.
-    fn reply(&mut self, call: Call, expected: &Reply<u64>, got: u64, input: impl Fn() -> String) {
+    pub fn reply(&mut self, call: Call, expected: &Reply<u64>, got: u64, input: impl Fn() -> String) {
         self.comparisons += 1;
         let (number, value) = match expected {
             Ok(value) => (0, *value),
@@ -97,7 +111,7 @@ impl Bench {
     }
 
     /// Compares what a written slice holds: `front`, and behind it and around it what it held.
-    fn written<T: Element>(&self, call: Call, slice: &Lent<T>, front: &[T], input: impl Fn() -> String) {
+    pub fn written<T: Element>(&self, call: Call, slice: &Lent<T>, front: &[T], input: impl Fn() -> String) {
         if !slice.holds(front) {
             let told = match slice.first_difference(front) {
                 Some((place, expected, got)) => (format!("{expected:?} at place {place}"), format!("{got:?}")),
@@ -110,7 +124,7 @@ impl Bench {
     }
 
     /// Fails unless slices that are only read hold what they held.
-    fn untouched(&self, call: Call, unchanged: bool, input: impl Fn() -> String) {
+    pub fn untouched(&self, call: Call, unchanged: bool, input: impl Fn() -> String) {
         if !unchanged {
             fail(call, &input(), "slices that are only read to stay", "a changed element in or beside one");
         }
@@ -184,7 +198,8 @@ impl Bench {
         let mut answer = Lent::room(room);
         let [header, lat, lon] = nulls_of(&case.memory);
         self.coverage.lent(call, &[header, lat, lon, answer.is_null()]);
-        let converted = case.grid().and_then(|grid| convert(call, &grid, point));
+        let way = if call == Call::To83 { TO83 } else { TO27 };
+        let converted = case.grid().and_then(|grid| grid.convert(way, point));
         let expected = if converted.is_ok() && answer.len() < 2 { refuse(8, 2) } else { converted };
         let got = match call {
             Call::To83 => library::to83(&case.memory, point, &mut answer),
@@ -197,33 +212,33 @@ impl Bench {
         converted
     }
 
-    /// Compares the conversion of many points or figures. `rooms` are the lengths of the answers and of the refusals.
-    pub fn many(&mut self, call: Call, case: &Case, points: Option<&[i64]>, rooms: [Option<usize>; 2]) {
-        let given = points.unwrap_or(&[]);
+    /// Compares a batch of requests. `rooms` are the lengths of the answers and of the refusals.
+    pub fn batch(&mut self, case: &Case, ways: Option<&[u8]>, points: Option<&[i64]>, rooms: [Option<usize>; 2]) {
+        let requests = ways.unwrap_or(&[]).iter().zip(points.unwrap_or(&[]).chunks_exact(2));
         let converted: Vec<_> = match case.grid() {
-            Ok(grid) => given.chunks_exact(2).map(|pair| convert(call, &grid, [pair[0], pair[1]])).collect(),
+            Ok(grid) => requests.map(|(&way, pair)| grid.convert(way, [pair[0], pair[1]])).collect(),
             Err(_) => Vec::new(),
         };
-        self.many_known(call, case, points, rooms, &converted);
+        self.batch_known(case, ways, points, rooms, &converted);
     }
 
-    /// The same where the caller already knows what each point is converted to.
-    pub fn many_known(
+    /// The same where the caller already knows what each request comes to.
+    pub fn batch_known(
         &mut self,
-        call: Call,
         case: &Case,
+        ways: Option<&[u8]>,
         points: Option<&[i64]>,
         rooms: [Option<usize>; 2],
         known: &[Reply<[i64; 2]>],
     ) {
+        let call = Call::Convert;
         let (answers, refusals) = (Lent::room(rooms[0]), Lent::room(rooms[1]));
-        let mut many = Many { points: Lent::content(points, &[]), answers, refusals };
-        let [header, lat, lon] = nulls_of(&case.memory);
-        self.coverage.lent(call, &[header, lat, lon, many.points.is_null(), many.answers.is_null(), many.refusals.is_null()]);
-        let expected = case.verdict.and_then(|_| self.enough(&many));
+        let mut batch = Batch { ways: Lent::content(ways, &[]), points: Lent::content(points, &[]), answers, refusals };
+        self.lent_to_batch(case, &batch);
+        let expected = case.verdict.and_then(|_| self.enough(&batch));
         let (mut answers, mut marks) = (Vec::new(), Vec::new());
         if expected.is_ok() {
-            answers = many.answers.original()[..2 * known.len()].to_vec();
+            answers = batch.answers.original()[..2 * known.len()].to_vec();
             marks = vec![0; known.len()];
             for (k, converted) in known.iter().enumerate() {
                 match converted {
@@ -231,58 +246,78 @@ impl Bench {
                     Err(refusal) => marks[k] = refusal.number,
                 }
             }
-            self.mark_many(&marks);
         }
-        let got = match call {
-            Call::To83All => library::to83_all(&case.memory, &mut many),
-            _ => library::to27_all(&case.memory, &mut many),
-        };
-        let account = || format!("{}, {} coordinates, rooms {rooms:?}", case.account(), many.points.len());
+        self.mark_batch(&batch, &expected, &marks);
+        let got = library::convert(&case.memory, &mut batch);
+        let account =
+            || format!("{}, {} ways, {} numbers, rooms {rooms:?}", case.account(), batch.ways.len(), batch.points.len());
         self.reply(call, &expected, got, account);
-        self.comparisons += known.len() as u64;
-        self.name_first_difference(call, case, &many, &answers, &marks);
-        self.written(call, &many.answers, &answers, account);
-        self.written(call, &many.refusals, &marks, account);
-        self.untouched(call, many.points.unchanged() && case.unchanged(), account);
+        self.comparisons += marks.len() as u64;
+        self.name_first_difference(case, &batch, &answers, &marks);
+        self.written(call, &batch.answers, &answers, account);
+        self.written(call, &batch.refusals, &marks, account);
+        self.untouched(call, batch.ways.unchanged() && batch.points.unchanged() && case.unchanged(), account);
     }
 
-    /// Among many points, names the one that differs rather than the whole slice.
-    fn name_first_difference(&self, call: Call, case: &Case, many: &Many, answers: &[i64], marks: &[u8]) {
-        let (points, found, flags) = (many.points.original(), many.answers.now(), many.refusals.now());
+    fn lent_to_batch(&mut self, case: &Case, batch: &Batch) {
+        let [header, lat, lon] = nulls_of(&case.memory);
+        let Batch { ways, points, answers, refusals } = batch;
+        let nulls = [header, lat, lon, ways.is_null(), points.is_null(), answers.is_null(), refusals.is_null()];
+        self.coverage.lent(Call::Convert, &nulls);
+    }
+
+    /// Among many requests, names the one that differs rather than the whole slice.
+    fn name_first_difference(&self, case: &Case, batch: &Batch, answers: &[i64], marks: &[u8]) {
+        let (points, found, flags) = (batch.points.original(), batch.answers.now(), batch.refusals.now());
         if found.starts_with(answers) && flags.starts_with(marks) {
             return;
         }
         let differs = |k: &usize| found[2 * k..2 * k + 2] != answers[2 * k..2 * k + 2] || flags[*k] != marks[*k];
         if let Some(k) = (0..marks.len()).find(differs) {
-            let pair = 2 * k..2 * k + 2;
-            let input = format!("point or figure {:?}, number {k}, {}", &points[pair.clone()], case.account());
+            let (way, pair) = (batch.ways.original()[k], 2 * k..2 * k + 2);
+            let input = format!("way {way}, {:?}, request {k}, {}", &points[pair.clone()], case.account());
             let told = |answer: &[i64], mark: u8| format!("{answer:?} refusal {mark}");
-            fail(call, &input, &told(&answers[pair.clone()], marks[k]), &told(&found[pair], flags[k]));
+            fail(Call::Convert, &input, &told(&answers[pair.clone()], marks[k]), &told(&found[pair], flags[k]));
         }
     }
 
-    /// Whether the slices of the functions for many points are long enough.
-    fn enough(&mut self, many: &Many) -> Reply<u64> {
-        let count = many.points.len() / 2;
-        if many.points.len() % 2 == 1 {
-            self.coverage.mark("many: odd number of coordinates");
-            return refuse(8, many.points.len() + 1);
-        }
-        if many.answers.len() < 2 * count {
-            self.coverage.mark("many: answers too short");
+    /// Whether the slices of a batch are long enough for its ways.
+    fn enough(&mut self, batch: &Batch) -> Reply<u64> {
+        let count = batch.ways.len();
+        let (short_points, short_answers) = (batch.points.len() < 2 * count, batch.answers.len() < 2 * count);
+        self.coverage.mark_if(short_points, "batch: points too short");
+        self.coverage.mark_if(short_answers && !short_points, "batch: answers too short");
+        self.coverage.mark_if(batch.points.len() > 2 * count, "batch: points longer than needed");
+        if short_points || short_answers {
             return refuse(8, 2 * count);
         }
-        if many.refusals.len() < count {
-            self.coverage.mark("many: refusals too short");
+        if batch.refusals.len() < count {
+            self.coverage.mark("batch: refusals too short");
             return refuse(8, count);
         }
         Ok(count as u64)
     }
 
-    fn mark_many(&mut self, marks: &[u8]) {
-        self.coverage.mark_if(marks.contains(&6), "many: point refused 6");
-        self.coverage.mark_if(marks.contains(&7), "many: figure refused 7");
-        self.coverage.mark_if(marks.is_empty(), "many: no points");
+    fn mark_batch(&mut self, batch: &Batch, expected: &Reply<u64>, marks: &[u8]) {
+        let ways = batch.ways.original();
+        let answered = |way: u8| ways.iter().zip(marks).any(|(&asked, &mark)| asked == way && mark == 0);
+        self.coverage.mark_if(answered(TO83) && answered(TO27), "batch: both ways answered");
+        self.coverage.mark_if(marks.contains(&6), "batch: point refused 6");
+        self.coverage.mark_if(marks.contains(&7), "batch: figure refused 7");
+        for (way, mark) in [(0, "batch: way 0"), (3, "batch: way 3"), (255, "batch: way 255")] {
+            self.coverage.mark_if(expected.is_ok() && ways.contains(&way), mark);
+        }
+        if ways.is_empty() {
+            self.coverage.mark_if(expected.is_ok(), "batch: no requests");
+            self.mark_refused(expected, EMPTY_BATCHES);
+        }
+    }
+
+    /// Marks the check that a grid failed.
+    pub fn mark_refused(&mut self, expected: &Reply<u64>, checks: [(u8, &'static str); 4]) {
+        for (number, mark) in checks {
+            self.coverage.mark_if(expected.is_err_and(|refusal| refusal.number == number), mark);
+        }
     }
 
     /// Compares a list; `room_for` makes the length of the room from the number of bytes needed.
@@ -308,6 +343,9 @@ impl Bench {
         }
         self.written(call, &room, front.as_bytes(), account);
         self.untouched(call, requests.unchanged() && case.unchanged(), account);
+        if requests.original().is_empty() {
+            self.mark_refused(&expected, EMPTY_LISTS);
+        }
         if let Ok((_, refused)) = made {
             self.mark_list(requests.original(), refused);
         }
@@ -325,12 +363,5 @@ impl Bench {
             self.coverage.mark_if(lines[..lines.len() - 1].iter().any(|line| line.len() == length), mark);
         }
         self.coverage.mark_if(lines.iter().any(|line| line.ends_with(b"\r")), "list: line ended by CR LF");
-    }
-}
-
-fn convert(call: Call, grid: &Grid, point: [i64; 2]) -> Reply<[i64; 2]> {
-    match call {
-        Call::To83 | Call::To83All => grid.to83(point),
-        _ => grid.to27(point),
     }
 }

@@ -9,9 +9,11 @@ pub enum Call {
     Write,
     To83,
     To27,
-    To83All,
-    To27All,
+    Convert,
     List,
+    Begin,
+    Feed,
+    Finish,
 }
 
 /// A function's name, the refusals it can give, and its slice parameters.
@@ -21,19 +23,27 @@ struct Known {
     slices: &'static [&'static str],
 }
 
-const KNOWN: [Known; 8] = [
+const CALLS: usize = 10;
+
+const KNOWN: [Known; CALLS] = [
     Known { name: "check", refusals: &[2, 3, 4, 5], slices: &["header", "lat", "lon"] },
     Known { name: "read", refusals: &[1, 2, 3, 4, 5, 8], slices: &["header", "lat", "lon", "text"] },
     Known { name: "write", refusals: &[2, 3, 4, 5, 8], slices: &["header", "lat", "lon", "room"] },
     Known { name: "to83", refusals: &[2, 3, 4, 5, 6, 8], slices: &["header", "lat", "lon", "answer"] },
     Known { name: "to27", refusals: &[2, 3, 4, 5, 7, 8], slices: &["header", "lat", "lon", "answer"] },
-    Known { name: "to83_all", refusals: &[2, 3, 4, 5, 8], slices: &["header", "lat", "lon", "points", "answers", "refusals"] },
-    Known { name: "to27_all", refusals: &[2, 3, 4, 5, 8], slices: &["header", "lat", "lon", "points", "answers", "refusals"] },
+    Known {
+        name: "convert",
+        refusals: &[2, 3, 4, 5, 8],
+        slices: &["header", "lat", "lon", "ways", "points", "answers", "refusals"],
+    },
     Known { name: "list", refusals: &[2, 3, 4, 5, 8], slices: &["header", "lat", "lon", "requests", "room"] },
+    Known { name: "begin", refusals: &[2, 3, 4, 5, 8], slices: &["header", "lat", "lon", "room"] },
+    Known { name: "feed", refusals: &[2, 3, 4, 5, 8], slices: &["header", "lat", "lon", "line", "state", "piece", "room"] },
+    Known { name: "finish", refusals: &[8], slices: &["line", "state", "room"] },
 ];
 
 /// Everything else that a run has to reach.
-const MARKS: [&str; 45] = [
+const MARKS: [&str; 82] = [
     "point: tie, positive latitude shift",
     "point: tie, negative latitude shift",
     "point: tie, positive longitude shift",
@@ -55,22 +65,58 @@ const MARKS: [&str; 45] = [
     "figure: back to a corner",
     "figure: one off an answer",
     "figure: absurd",
-    "many: point refused 6",
-    "many: figure refused 7",
-    "many: odd number of coordinates",
-    "many: answers too short",
-    "many: refusals too short",
-    "many: no points",
+    "batch: point refused 6",
+    "batch: figure refused 7",
+    "batch: both ways answered",
+    "batch: way 0",
+    "batch: way 3",
+    "batch: way 255",
+    "batch: points too short",
+    "batch: points longer than needed",
+    "batch: answers too short",
+    "batch: refusals too short",
+    "batch: no requests",
+    "batch: no requests, refused 2",
+    "batch: no requests, refused 5",
+    "batch: no requests, refused 3",
+    "batch: no requests, refused 4",
     "list: line refused 1",
     "list: line refused 6",
     "list: line refused 7",
     "list: no lines",
+    "list: no lines, refused 2",
+    "list: no lines, refused 5",
+    "list: no lines, refused 3",
+    "list: no lines, refused 4",
     "list: last line without newline",
     "list: line of 64 bytes",
     "list: line of 65 bytes",
     "list: line of 100,000 bytes",
     "list: line ended by CR LF",
     "list: empty line",
+    "pieces: joined, they are the whole list",
+    "pieces: a line in three pieces",
+    "pieces: every byte a piece",
+    "pieces: an empty piece",
+    "pieces: 65 bytes of a longer line",
+    "pieces: last line without newline",
+    "pieces: an empty piece, refused 2",
+    "pieces: an empty piece, refused 5",
+    "pieces: an empty piece, refused 3",
+    "pieces: an empty piece, refused 4",
+    "pieces: a later piece, refused 2",
+    "pieces: a later piece, refused 5",
+    "pieces: a later piece, refused 3",
+    "pieces: a later piece, refused 4",
+    "pieces: the line too short",
+    "pieces: the numbers too few",
+    "pieces: the line and the numbers too short",
+    "pieces: the room too short",
+    "pieces: length below 0",
+    "pieces: length above 65",
+    "pieces: a newline in the line that is lent",
+    "pieces: a total at its greatest",
+    "pieces: the paper's sheet made too steep behind a first piece",
     "text: empty",
     "text: last newline missing",
     "text: lines ended by CR LF",
@@ -79,20 +125,21 @@ const MARKS: [&str; 45] = [
     "text: above 48,000 bytes",
     "grid: 2,048 nodes",
     "grid: every tiny point mapped",
+    "grid: the paper's sheet made too steep",
 ];
 
 pub struct Coverage {
-    refusals: [[u64; 9]; 8],
-    rules: [[u64; 10]; 8],
-    answers: [u64; 8],
-    nulls: [[u64; 6]; 8],
+    refusals: [[u64; 9]; CALLS],
+    rules: [[u64; 10]; CALLS],
+    answers: [u64; CALLS],
+    nulls: [[u64; 7]; CALLS],
     marks: BTreeMap<&'static str, u64>,
 }
 
 impl Coverage {
     pub fn new() -> Coverage {
         let marks = MARKS.iter().map(|&mark| (mark, 0)).collect();
-        Coverage { refusals: [[0; 9]; 8], rules: [[0; 10]; 8], answers: [0; 8], nulls: [[0; 6]; 8], marks }
+        Coverage { refusals: [[0; 9]; CALLS], rules: [[0; 10]; CALLS], answers: [0; CALLS], nulls: [[0; 7]; CALLS], marks }
     }
 
     pub fn answered(&mut self, call: Call) {
@@ -134,7 +181,8 @@ impl Coverage {
             };
             need(self.answers[k], "an answer".to_string());
             known.refusals.iter().for_each(|&number| need(self.refusals[k][number], format!("refusal {number}")));
-            (1..=9).for_each(|rule| need(self.rules[k][rule], format!("header rule {rule}")));
+            let rules = if known.refusals.contains(&2) { 1..=9 } else { 1..=0 };
+            rules.for_each(|rule| need(self.rules[k][rule], format!("header rule {rule}")));
             known.slices.iter().enumerate().for_each(|(s, name)| need(self.nulls[k][s], format!("{name} lent as NULL")));
         }
         missing.extend(self.marks.iter().filter(|(_, &count)| count == 0).map(|(name, _)| name.to_string()));

@@ -4,7 +4,7 @@
 use crate::compare::{fail, Bench, Case};
 use crate::coverage::Call;
 use crate::grids::{self, Plain};
-use crate::model::{refuse, Reply};
+use crate::model::{refuse, Reply, TO27, TO83};
 use crate::random::Random;
 
 /// Figures and their points, in the order of the figures.
@@ -43,7 +43,7 @@ fn map_all(bench: &mut Bench, case: &Case, plain: &Plain) -> Map {
         let points: Vec<[i64; 2]> = (west..=west + (cols - 1) * dlon).map(|lon| [lat, lon]).collect();
         let answers: Vec<Reply<[i64; 2]>> = points.iter().map(|&point| grid.to83(point)).collect();
         let rooms = [Some(2 * points.len()), Some(points.len())];
-        bench.many_known(Call::To83All, case, Some(&points.concat()), rooms, &answers);
+        bench.batch_known(case, Some(&vec![TO83; points.len()]), Some(&points.concat()), rooms, &answers);
         map.extend(answers.iter().flatten().copied().zip(points));
     }
     map.sort_unstable();
@@ -70,7 +70,7 @@ fn looked_up(map: &Map, figure: [i64; 2]) -> Reply<[i64; 2]> {
 
 fn take_back(bench: &mut Bench, case: &Case, map: &Map, figures: &[i64]) {
     let known: Vec<_> = figures.chunks_exact(2).map(|pair| looked_up(map, [pair[0], pair[1]])).collect();
-    bench.many_known(Call::To27All, case, Some(figures), [Some(figures.len()), Some(known.len())], &known);
+    bench.batch_known(case, Some(&vec![TO27; known.len()]), Some(figures), [Some(figures.len()), Some(known.len())], &known);
 }
 
 /// Along all four edges, the answer of every point and the figures next to it.

@@ -3,8 +3,8 @@
 use crate::compare::{Bench, Case};
 use crate::grids::{self, Plain};
 use crate::model::Grid;
-use crate::points;
 use crate::random::Random;
+use crate::{pieces, points};
 
 /// Lines that are not of the form, or are so only just.
 const LINES: [&str; 40] = [
@@ -95,6 +95,7 @@ pub fn compare(bench: &mut Bench, random: &mut Random, plain: &Plain, count: usi
     bench.list(&case, Some(&requests), b"\nto83=0,0\n", |needed| Some(needed - 1));
     let other = random.below(4);
     bench.list(&case, Some(&requests), b"", |needed| [Some(needed + 9), Some(0), None, Some(needed / 2)][other]);
+    pieces::compare(bench, random, &case, &requests);
 }
 
 /// The lines of the table and those at 63, 64, 65 bytes and far above, each alone and between two valid ones.

@@ -15,6 +15,7 @@ mod memory;
 mod model;
 mod model_text;
 mod paper;
+mod pieces;
 mod points;
 mod random;
 mod run;

@@ -4,6 +4,7 @@ use crate::compare::{Bench, Case};
 use crate::coverage::Call;
 use crate::grids::Plain;
 use crate::lent::Element;
+use crate::model::{TO27, TO83};
 use crate::model_text::{list, text_of};
 use crate::points::every_call;
 use crate::random::Random;
@@ -48,13 +49,25 @@ pub fn answer_slices(bench: &mut Bench, plain: &Plain) {
             let _ = bench.one(call, &case, point, length);
         }
     }
-    let points = [on, off, on, [off[0], i64::MAX], on].concat();
-    let figures = [off, figure, [figure[0], i64::MIN], figure, figure].concat();
-    for count in (0..=points.len()).map(Some).chain([None]) {
-        let pairs = count.unwrap_or(0) / 2;
-        for (answers, refusals) in lengths(2 * pairs).into_iter().flat_map(|a| lengths(pairs).into_iter().map(move |b| (a, b))) {
-            bench.many(Call::To83All, &case, count.map(|count| &points[..count]), [answers, refusals]);
-            bench.many(Call::To27All, &case, count.map(|count| &figures[..count]), [answers, refusals]);
+}
+
+/// Slices of every length for a batch, whose ways alone say how many requests there are.
+pub fn batch_slices(bench: &mut Bench, plain: &Plain) {
+    let case = Case::of(&plain.header, &plain.lat, &plain.lon);
+    let on = [plain.header[0], plain.header[1]];
+    let off = [plain.header[0] - 1, i64::MAX];
+    let figure = case.grid().and_then(|grid| grid.to83(on)).unwrap_or([0, 0]);
+    let ways = [TO83, TO27, 0, TO27, 3, TO83, 255];
+    let numbers = [on, figure, on, off, figure, off, on].concat();
+    for count in (0..=ways.len()).map(Some).chain([None]) {
+        let needed = count.unwrap_or(0);
+        for (points, answers) in
+            lengths(2 * needed).into_iter().flat_map(|a| lengths(2 * needed).into_iter().map(move |b| (a, b)))
+        {
+            let points = resized(&numbers, points);
+            for refusals in lengths(needed) {
+                bench.batch(&case, count.map(|count| &ways[..count]), points.as_deref(), [answers, refusals]);
+            }
         }
     }
 }

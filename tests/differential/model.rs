@@ -15,6 +15,10 @@ pub fn refuse<T>(number: u8, place: usize) -> Reply<T> {
     Err(Refusal { number, place: place as u64 })
 }
 
+/// The ways of the C header.
+pub const TO83: u8 = 1;
+pub const TO27: u8 = 2;
+
 pub const LARGEST_SHIFT: i128 = 6_000_000;
 const LAT_LIMIT: i128 = 323_940_000;
 const LON_LIMIT: i128 = 647_940_000;
@@ -147,6 +151,15 @@ impl<'a> Grid<'a> {
             return refuse(6, 0);
         }
         Ok([self.lat_figure(lat, lon) as i64, self.lon_figure(lat, lon) as i64])
+    }
+
+    /// One request of a batch. A way that does not exist is refused 1.
+    pub fn convert(&self, way: u8, numbers: [i64; 2]) -> Reply<[i64; 2]> {
+        match way {
+            TO83 => self.to83(numbers),
+            TO27 => self.to27(numbers),
+            _ => refuse(1, 0),
+        }
     }
 
     /// The NAD 27 point whose answer is the NAD 83 figure `figure`, by two searches, one within the other.

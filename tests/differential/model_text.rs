@@ -107,27 +107,81 @@ fn request(line: &[u8]) -> Option<Request> {
     to83.or_else(|| named_pair(line, b"to27=").map(Request::To27))
 }
 
+/// The reply to a line that still has its newline, if it has one: its text, and the number of the refusal or 0.
+fn reply(grid: &Grid, line: &[u8]) -> (String, u8) {
+    let (word, answer) = match request(line) {
+        None => ("", refuse(1, 0)),
+        Some(Request::To83(point)) => ("ok83", grid.to83(point)),
+        Some(Request::To27(figure)) => ("ok27", grid.to27(figure)),
+    };
+    match answer {
+        Ok([lat, lon]) => (format!("{word}={lat},{lon}\n"), 0),
+        Err(refusal) => (format!("no={}\n", refusal.number), refusal.number),
+    }
+}
+
 /// The list over the request lines, and how many lines were refused 1, 6 and 7.
 pub fn list(grid: &Grid, requests: &[u8]) -> (String, [usize; 3]) {
     let mut out = format!("sheet={}\n", grid.nodes());
     let (mut answered, mut refused) = (0, [0; 3]);
     for line in requests.split_inclusive(|&byte| byte == b'\n') {
-        let (word, answer) = match request(line) {
-            None => ("", refuse(1, 0)),
-            Some(Request::To83(point)) => ("ok83", grid.to83(point)),
-            Some(Request::To27(figure)) => ("ok27", grid.to27(figure)),
-        };
-        match answer {
-            Ok([lat, lon]) => {
-                out += &format!("{word}={lat},{lon}\n");
-                answered += 1;
-            }
-            Err(refusal) => {
-                out += &format!("no={}\n", refusal.number);
-                refused[[1, 6, 7].iter().position(|&number| number == refusal.number).unwrap()] += 1;
-            }
+        let (text, number) = reply(grid, line);
+        out += &text;
+        match [1, 6, 7].iter().position(|&known| known == number) {
+            Some(place) => refused[place] += 1,
+            None => answered += 1,
         }
     }
     out += &format!("done={},{}\n", answered, refused.iter().sum::<usize>());
     (out, refused)
+}
+
+/// The most bytes that are kept of a line under way.
+pub const LINE: usize = 65;
+/// The numbers of a list.
+pub const STATE: usize = 3;
+
+/// A list that is under way.
+pub struct Sitting {
+    pub line: Vec<u8>,
+    answered: i64,
+    refused: i64,
+}
+
+impl Sitting {
+    /// Any memory that is long enough is a list.
+    pub fn of(line: &[u8], state: &[i64]) -> Sitting {
+        let length = state[0].clamp(0, LINE as i64) as usize;
+        Sitting { line: line[..length].to_vec(), answered: state[1], refused: state[2] }
+    }
+
+    pub fn state(&self) -> [i64; STATE] {
+        [self.line.len() as i64, self.answered, self.refused]
+    }
+
+    /// The replies to the lines that end in a piece.
+    pub fn feed(&mut self, grid: &Grid, piece: &[u8]) -> String {
+        let mut out = String::new();
+        for part in piece.split_inclusive(|&byte| byte == b'\n') {
+            self.line.extend_from_slice(part);
+            if part.ends_with(b"\n") {
+                let (text, number) = reply(grid, &self.line);
+                let total = if number == 0 { &mut self.answered } else { &mut self.refused };
+                *total = total.saturating_add(1);
+                out += &text;
+                self.line.clear();
+            }
+            self.line.truncate(LINE);
+        }
+        out
+    }
+
+    /// The last lines of the list.
+    pub fn finish(&self) -> String {
+        let Sitting { line, answered, refused } = self;
+        if line.is_empty() {
+            return format!("done={answered},{refused}\n");
+        }
+        format!("no=1\ndone={answered},{}\n", refused.saturating_add(1))
+    }
 }

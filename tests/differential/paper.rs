@@ -3,7 +3,7 @@
 use crate::compare::{fail, Bench, Case};
 use crate::coverage::Call;
 use crate::grids::{paper_p, paper_q, Plain};
-use crate::model::{refuse, Reply};
+use crate::model::{refuse, Reply, TO27, TO83};
 
 fn expect(bench: &mut Bench, call: Call, plain: &Plain, point: [i64; 2], expected: Reply<[i64; 2]>) {
     let case = Case::of(&plain.header, &plain.lat, &plain.lon);
@@ -32,6 +32,21 @@ pub fn points(bench: &mut Bench) {
     for (shift, expected) in [(6_250, Ok([0, 0])), (6_251, refuse(4, 0))] {
         let steep = Plain { lat: vec![0, shift, 0, 1], ..q.clone() };
         expect(bench, Call::To83, &steep, [0, 0], expected);
+    }
+}
+
+/// Sheet Q with an east side so steep that the way back would miss, or find two points: 4 at node 0, whatever is asked of it.
+pub fn too_steep(bench: &mut Bench) {
+    for shift in [90_000, -100_000] {
+        let steep = Plain { lon: vec![0, shift, 0, shift], ..paper_q() };
+        expect(bench, Call::To83, &steep, [0, 500], refuse(4, 0));
+        expect(bench, Call::To27, &steep, [0, 95_000], refuse(4, 0));
+        let case = Case::of(&steep.header, &steep.lat, &steep.lon);
+        bench.batch(&case, Some(&[TO83, TO27]), Some(&[0, 500, 0, 95_000]), [Some(4), Some(2)]);
+        bench.batch(&case, Some(&[]), Some(&[]), [Some(0), Some(0)]);
+        bench.list(&case, Some(b"to83=0,500\nto27=0,95000\n"), b"", Some);
+        bench.list(&case, Some(b""), b"", Some);
+        bench.coverage.mark("grid: the paper's sheet made too steep");
     }
 }
 

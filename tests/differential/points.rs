@@ -3,7 +3,8 @@
 use crate::compare::{Bench, Case};
 use crate::coverage::Call;
 use crate::grids::{self, Plain};
-use crate::model::Grid;
+use crate::model::{refuse, Grid, TO27, TO83};
+use crate::pieces;
 use crate::random::Random;
 
 /// A coordinate along one axis of a grid: nodes, cell sides and middles, edges, one off, anywhere, absurd.
@@ -52,30 +53,37 @@ pub fn figure(random: &mut Random, grid: &Grid, header: &[i64]) -> [i64; 2] {
     }
 }
 
-/// Compares `count` points and as many figures over one grid.
+/// Ways that do not exist.
+const NO_WAYS: [u8; 4] = [0, 3, 255, 83];
+
+/// Compares `count` points and as many figures over one grid, each alone and then all in one batch, among them ways that do not exist.
 pub fn compare(bench: &mut Bench, random: &mut Random, plain: &Plain, count: usize) {
     let case = Case::of(&plain.header, &plain.lat, &plain.lon);
     bench.check(&case);
     let Ok(grid) = case.grid() else { return };
     bench.coverage.mark_if(grid.nodes() == 2_048, "grid: 2,048 nodes");
-    let (mut points, mut figures) = (Vec::new(), Vec::new());
-    let (mut found, mut back) = (Vec::new(), Vec::new());
+    let (mut ways, mut numbers, mut known) = (Vec::new(), Vec::new(), Vec::new());
     for _ in 0..count {
         let point = point(random, &plain.header);
-        found.push(bench.one(Call::To83, &case, point, Some(2)));
+        let found = bench.one(Call::To83, &case, point, Some(2));
         mark_point(bench, &grid, point);
-        points.extend(point);
         let figure = figure(random, &grid, &plain.header);
         let answer = bench.one(Call::To27, &case, figure, Some(2));
         bench.coverage.mark_if(figure.iter().any(|part| part.unsigned_abs() > 1 << 40), "figure: absurd");
         mark_back(bench, &grid, answer.ok());
-        back.push(answer);
-        figures.extend(figure);
+        let mut requests = vec![(TO83, point, found), (TO27, figure, answer)];
+        if random.once_in(4) {
+            requests.push((random.pick(&NO_WAYS), point, refuse(1, 0)));
+        }
+        requests.rotate_left(random.below(2));
+        for (way, pair, outcome) in requests {
+            ways.push(way);
+            numbers.extend(pair);
+            known.push(outcome);
+        }
     }
-    let rooms = [Some(2 * count), Some(count)];
-    bench.many_known(Call::To83All, &case, Some(&points), rooms, &found);
-    bench.many_known(Call::To27All, &case, Some(&figures), rooms, &back);
-    around_answers(bench, random, &case, &points);
+    bench.batch_known(&case, Some(&ways), Some(&numbers), [Some(numbers.len()), Some(ways.len())], &known);
+    around_answers(bench, random, &case, &numbers);
 }
 
 /// Takes back the answers of some points, and their eight neighbours one off, which are no answers.
@@ -85,7 +93,7 @@ fn around_answers(bench: &mut Bench, random: &mut Random, case: &Case, points: &
     let Ok([lat, lon]) = grid.to83([points[chosen], points[chosen + 1]]) else { return };
     let steps = [-1, 0, 1];
     let around: Vec<i64> = steps.iter().flat_map(|a| steps.map(|b| [lat + a, lon + b])).flatten().collect();
-    bench.many(Call::To27All, case, Some(&around), [Some(20), Some(10)]);
+    bench.batch(case, Some(&[TO27; 9]), Some(&around), [Some(20), Some(10)]);
     bench.coverage.mark("figure: one off an answer");
 }
 
@@ -139,9 +147,11 @@ pub fn every_call(bench: &mut Bench, random: &mut Random, case: &Case, text: &st
     bench.write(case, text, room(text.len()));
     let _ = bench.one(Call::To83, case, point, room(2));
     let _ = bench.one(Call::To27, case, point, room(2));
-    bench.many(Call::To83All, case, Some(&point), [room(2), room(1)]);
-    bench.many(Call::To27All, case, Some(&point), [room(2), room(1)]);
+    bench.batch(case, Some(&[TO83, TO27, 0]), Some(&[point, point, point].concat()), [room(6), room(3)]);
+    bench.batch(case, None, Some(&point), [room(2), room(1)]);
     let choice = random.below(5);
     let list_room = |needed| [Some(needed), Some(needed + 2), Some(needed - 1), Some(0), None][choice];
     bench.list(case, Some(b"to83=0,0\nto27=0,0\n"), b"\n", list_room);
+    bench.list(case, Some(b""), b"to83=0,0\n", list_room);
+    pieces::every_call(bench, random, case);
 }

@@ -2,7 +2,7 @@
 
 use crate::compare::Bench;
 use crate::random::Random;
-use crate::{broken, exhaustive, grids, lists, memory, paper, points, texts};
+use crate::{broken, exhaustive, grids, lists, memory, paper, pieces, points, texts};
 use std::time::{Duration, Instant};
 
 /// The seed of the short run, and of a long one that is given no other.
@@ -35,10 +35,12 @@ pub fn long(seed: u64, time: Duration) -> Bench {
 fn fixed(bench: &mut Bench, random: &mut Random) {
     paper::points(bench);
     paper::list(bench);
+    paper::too_steep(bench);
     broken::header_edges(bench, random);
     broken::each_node(bench, random);
     broken::range_before_steepness(bench, random);
     lists::totals(bench);
+    pieces::spoilt_behind_a_piece(bench);
     for plain in [grids::paper_p(), grids::paper_q()] {
         texts::cuts(bench, &plain);
         texts::each_byte(bench, &plain);
@@ -46,8 +48,11 @@ fn fixed(bench: &mut Bench, random: &mut Random) {
         texts::endings(bench, &plain);
         lists::each_line(bench, &plain);
         memory::answer_slices(bench, &plain);
+        memory::batch_slices(bench, &plain);
         memory::text_slices(bench, &plain);
         memory::reader_slices(bench, &plain);
+        pieces::slices(bench, &plain);
+        pieces::damaged(bench, random, &plain, 500);
         memory::grid_slices(bench, random, &plain);
     }
 }

@@ -14,10 +14,10 @@ use Rattle.grid.specs.Check.{Passes}
 use Rattle.grid.proofs.Passing.{Good, good}
 use Rattle.convert.specs.Points.{targetOf}
 use Rattle.convert.specs.Convert.{answer, to83, to27}
-use Rattle.convert.specs.Rounds.{candidate, confirm, seek, inverse}
+use Rattle.convert.specs.Rounds.{candidate, settle, sought}
 use Rattle.convert.specs.declared.offsets.Place.{Place}
 use Rattle.convert.proofs.Places.{Target, target-at, target-inside}
-use Rattle.convert.proofs.Cases.{to83-on, forward-passes, inverse-at}
+use Rattle.convert.proofs.Cases.{to83-on}
 use Rattle.convert.proofs.OnPassing.{answer-target}
 use Rattle.convert.proofs.Candidate.{candidate-on, candidate-only}
 use Rattle.convert.proofs.Demands.{answer-is, Returned, returned-once, returned}
@@ -35,12 +35,8 @@ module _ (g : Grid) (f : Point83) (e : Passes g) where
     only : (p : Point27) → to83 g p ≡ answered f → candidate g X Y ≡ p
     only p u = let a = answer-is g p u in candidate-only ok p (a .1) (subst (λ (v : Point83). Target (g .header) v X Y) (sym (a .2)) t)
 
-    confirmed : Returned g f (confirm g f (candidate g X Y))
-    unfolding confirm
-    confirmed =
-        let c = candidate g X Y in
-        let o = forward-passes g c e ∙ to83-on g c e (candidate-on g (ok .header) X Y) in
-        rw o (go (same83 f (answer g c)) refl)
+    confirmed : Returned g f (settle f (answer g (candidate g X Y)) (candidate g X Y))
+    confirmed = go (same83 f (answer g (candidate g X Y))) refl
       where
         go : (b : Bool) → same83 f (answer g (candidate g X Y)) ≡ b
             → Returned g f (cond b (answered (candidate g X Y)) (refused 7 0))
@@ -56,13 +52,11 @@ module _ (g : Grid) (f : Point83) (e : Passes g) where
               not-both w s,
         )
 
-  sought : (a : Place) → a ≡ targetOf (g .header) f → Returned g f (seek g f a)
-  unfolding seek
-  sought Place.Outside o = inr (e, refl, refl, outside o)
-  sought (Place.At X Y) o = confirmed (target-at (g .header) f o)
+  found : (a : Place) → a ≡ targetOf (g .header) f → Returned g f (sought g f a)
+  unfolding sought
+  found Place.Outside o = inr (e, refl, refl, outside o)
+  found (Place.At X Y) o = confirmed (target-at (g .header) f o)
 
   -- the search by rounds is the search of every point
-  pub inverse-passes : inverse g f ≡ to27 g f
-  inverse-passes =
-      sym (inverse-at g f (ok .laid-out) refl)
-      ∙ returned-once g f (seek g f (targetOf (g .header) f)) (to27 g f) (sought (targetOf (g .header) f) refl) (returned g f)
+  pub sought-passes : {a : Place} → a ≡ targetOf (g .header) f → sought g f a ≡ to27 g f
+  sought-passes {a} o = returned-once g f (sought g f a) (to27 g f) (found a o) (returned g f)

@@ -1,6 +1,5 @@
 pub mod Points
 pub mod Convert
 pub mod Rounds
-pub mod Pairs
-pub mod Many
+pub mod Batch
 pub mod Starred

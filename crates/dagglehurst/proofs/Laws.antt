@@ -1,43 +1,32 @@
 -- Laws of numbers at the front of a slice, and of slices that are too short for them.
 use Prim.Native.Nat.{ℕ, _≤_, _<_}
 use mathlib.Core.Path.{_≡_, refl, _∙_}
-use mathlib.Core.List.{List, [], _∷_}
-use native.Mathlib.Omega.{arith}
+use mathlib.Core.List.{List, [], _∷_, _++_}
 use borrow.Author.Tests.{lt-ltb, le-ltb}
 use mir.Syntax.{w64}
 use mir.Val.{SFits, toZ, ofZ}
 use mir.Facts.{toZ-ofZ}
 use lib.IntN.{ℤ}
 use lib.ListN.{length, set}
-use Rattle.laws.specs.Over.{over}
-use Rattle.figures.specs.Outcome.{answered, refused}
+use Rattle.laws.specs.Over.{over, over-set}
+use Rattle.figures.specs.Outcome.{Outcome, answered, refused, mapAnswer}
 use Rattle.grid.specs.Grid.{nodeLists}
 use Rattle.grid_reader.specs.Reading.{reading}
-use Rattle.grid.specs.declared.Header.{Header}
-use Rattle.dagglehurst.specs.Header.{numbers, readingAll}
-use Rattle.convert.specs.Pairs.{Pair}
-use Rattle.dagglehurst.specs.Points.{fitted}
+use Rattle.dagglehurst.specs.Reply.{reply}
+use Rattle.dagglehurst.specs.Header.{readingAll}
+use Rattle.convert.specs.Batch.{Pair}
+use Rattle.dagglehurst.specs.Points.{fitted, one, pairAfter}
 
--- one more number stored
-pub then-set : (k : ℕ) {l m n : List ℤ} {x : ℤ} → SFits w64 x → l ≡ set m k (toZ w64 (ofZ w64 x)) → m ≡ n → l ≡ set n k x
-then-set k f e g = e ∙ (λ i. set (g i) k (toZ-ofZ f i))
+-- a slice has become `after`: the numbers `w` at its front were stored, one behind the other
+pub record Front (w before after : List ℤ) : Type 0 where
+  pub is : after ≡ over w before
 
-pub front-two : (a b : ℤ) (l : List ℤ) → 2 ≤ length l → set (set l 0 a) 1 b ≡ over (a ∷ b ∷ []) l
+pub front-none : (l : List ℤ) → Front [] l l
 unfolding over
-front-two a b [] h = absurd (omega arith)
-front-two a b (x ∷ []) h = absurd (omega arith)
-front-two a b (x ∷ y ∷ l) h = refl
+front-none l = record { is = refl }
 
-pub front-header : (h : Header) (l : List ℤ) → 6 ≤ length l
-    → set (set (set (set (set (set l 0 (h .south .0)) 1 (h .west .0)) 2 (h .dlat)) 3 (h .dlon)) 4 (h .rows)) 5 (h .cols) ≡ over (numbers h) l
-unfolding over
-front-header hd [] h = absurd (omega arith)
-front-header hd (x₀ ∷ []) h = absurd (omega arith)
-front-header hd (x₀ ∷ x₁ ∷ []) h = absurd (omega arith)
-front-header hd (x₀ ∷ x₁ ∷ x₂ ∷ []) h = absurd (omega arith)
-front-header hd (x₀ ∷ x₁ ∷ x₂ ∷ x₃ ∷ []) h = absurd (omega arith)
-front-header hd (x₀ ∷ x₁ ∷ x₂ ∷ x₃ ∷ x₄ ∷ []) h = absurd (omega arith)
-front-header hd (x₀ ∷ x₁ ∷ x₂ ∷ x₃ ∷ x₄ ∷ x₅ ∷ l) h = refl
+pub front-more : (k : ℕ) {l m n w : List ℤ} {x : ℤ} → SFits w64 x → l ≡ set m k (toZ w64 (ofZ w64 x)) → Front w n m → length w ≡ k → k < length n → Front (w ++ (x ∷ [])) n l
+front-more k {n = n} {w} {x} f e s h b = record { is = e ∙ (λ i. set (s .is i) k (toZ-ofZ f i)) ∙ over-set w n x k h b }
 
 -- reading with a slice for the header that is too short, and with one that is not
 module _ (text : List ℕ) (header lat lon : List ℤ) where
@@ -58,3 +47,15 @@ module _ (p : Pair) (room : List ℤ) where
   pub pair-fits : 2 ≤ length room → fitted (answered p) room ≡ answered p
   unfolding fitted
   pair-fits h = rw (le-ltb (length room) 2 h)
+
+-- what a conversion of one point comes to, with its answer as plain numbers: the same for both ways
+abbrev pub Stored : Outcome Pair → (room : List ℤ) → (r : ℕ) → (after : List ℤ) → Type 0
+Stored o room r after = (r ≡ reply (mapAnswer one (fitted o room))) × (after ≡ pairAfter (fitted o room) room)
+
+module _ {A : Type 0} (plain : A → Pair) (room : List ℤ) {o : Outcome A} {r : ℕ} where
+  pub stored-refusal : {n k : ℕ} → refused n k ≡ o → r ≡ reply (refused n k) → Stored (mapAnswer plain o) room r room
+  unfolding fitted pairAfter
+  stored-refusal e f = rw (← e) (f, refl)
+
+  pub stored-answer : {a : A} {after : List ℤ} → answered a ≡ o → Stored (answered (plain a)) room r after → Stored (mapAnswer plain o) room r after
+  stored-answer e s = rw (← e) s

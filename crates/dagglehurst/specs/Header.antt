@@ -12,7 +12,7 @@ use Rattle.grid.specs.declared.Header.{Header}
 use Rattle.grid_reader.specs.Reading.{reading}
 
 -- a number that the slice does not have is 0
-abbrev number : List ℤ → ℕ → ℤ
+abbrev pub number : List ℤ → ℕ → ℤ
 number s k = getD s k (pos 0)
 
 -- so a slice of fewer than six numbers has no columns, and breaks a rule

@@ -1,3 +1,4 @@
 pub mod Reply
 pub mod Header
 pub mod Points
+pub mod Pieces

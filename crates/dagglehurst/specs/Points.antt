@@ -6,7 +6,10 @@ use lib.ListN.{length}
 use lib.IntN.{ℤ}
 use Rattle.laws.specs.Over.{over}
 use Rattle.figures.specs.Outcome.{Outcome, answered, refused, refuseIf}
-use Rattle.convert.specs.Pairs.{Pair}
+use Rattle.convert.specs.Batch.{Pair}
+
+abbrev pub pair : (lat lon : ℤ) → Pair
+pair lat lon = record { lat = lat; lon = lon }
 
 -- an answer needs room for two numbers: 8 with the two needed, after the refusals of converting
 unfoldable pub fitted : Outcome Pair → (room : List ℤ) → Outcome Pair

@@ -1,11 +1,17 @@
 // The library for other languages: numbers and slices only, and one number as the answer (reply.rt). include/dagglehurst.h says what each
 // function does. A grid is a header, as a slice of six numbers, and its two node slices.
+mod memory;
 mod numbers;
+mod pieces;
 mod reply;
 
-use convert::many::convert_all;
-use convert::pairs::Way;
-use convert::pairs::convert_pair;
+use convert::Answer27;
+use convert::Answer83;
+use convert::batch::convert_batch;
+use convert::to27;
+use convert::to83;
+use figures::Point27;
+use figures::Point83;
 use grid::Checked;
 use grid_reader::GridRead;
 use numbers::header_in;
@@ -13,6 +19,7 @@ use numbers::put_answer;
 use numbers::put_header;
 ghost use mathlib.Core.Path.{_≡_};
 ghost use Rattle.figures.specs.Outcome.{mapAnswer};
+ghost use Rattle.figures.specs.Points.{point27, point83};
 ghost use Rattle.writing.specs.Writing.{roomAfter};
 ghost use Rattle.grid.specs.Grid.{nodeLists};
 ghost use Rattle.grid.specs.Rules.{nodeCountOr0};
@@ -20,12 +27,11 @@ ghost use Rattle.grid.specs.Check.{verdict};
 ghost use Rattle.grid_text.specs.Text.{gridText};
 ghost use Rattle.grid_text.specs.Writing.{writing};
 ghost use Rattle.grid_reader.specs.Reading.{nodesAfter};
-ghost use Rattle.requests.specs.Replies.{checkedAfresh};
+ghost use Rattle.convert.specs.Convert.{to83, to27};
+ghost use Rattle.convert.specs.Batch.{pair83, pair27, requestOutcome, converting, answersAfter, refusalsAfter};
 ghost use Rattle.listing.specs.Listing.{listing, listText};
 ghost use Rattle.dagglehurst.specs.Reply.{reply};
 ghost use Rattle.dagglehurst.specs.Header.{headerIn, gridIn, readingAll, nodeCountIn, headerAfter};
-ghost use Rattle.convert.specs.Pairs.{converted};
-ghost use Rattle.convert.specs.Many.{convertingAll, answersAfter, refusalsAfter};
 ghost use Rattle.dagglehurst.specs.Points.{fitted, one, pairAfter};
 
 // Reads a grid's text.
@@ -88,11 +94,17 @@ pub extern "C" fn dagglehurst_to83<'a>(
     east: i64,
     answer: &mut [i64],
 ) -> u64
-    ensures answer { λ r. ⌜ r ≡ reply (mapAnswer one (fitted (converted Way.To83 (gridIn (now (header .entry)) (now (lat .entry)) (now (lon .entry))) north east) (now (answer .entry)))) ⌝ }
-    ensures room { λ r. ⌜ now (answer .exit) ≡ pairAfter (fitted (converted Way.To83 (gridIn (now (header .entry)) (now (lat .entry)) (now (lon .entry))) north east) (now (answer .entry))) (now (answer .entry)) ⌝ }
+    ensures answer { λ r. ⌜ r ≡ reply (mapAnswer one (fitted (mapAnswer pair83 (to83 (gridIn (now (header .entry)) (now (lat .entry)) (now (lon .entry))) (point27 north east))) (now (answer .entry)))) ⌝ }
+    ensures room { λ r. ⌜ now (answer .exit) ≡ pairAfter (fitted (mapAnswer pair83 (to83 (gridIn (now (header .entry)) (now (lat .entry)) (now (lon .entry))) (point27 north east))) (now (answer .entry))) (now (answer .entry)) ⌝ }
 {
-    let c = convert_pair(Way::To83, header_in(header), lat, lon, north, east);
-    put_answer(c, answer)
+    match to83(header_in(header), lat, lon, Point27::new(north, east)) {
+        Answer83::Refused(why) => reply::refused(why),
+        Answer83::Point(f) => {
+            let y = f.lat;
+            let x = f.lon;
+            put_answer(y.0, x.0, answer)
+        }
+    }
 }
 
 // Takes the NAD 83 figure `north`, `east` back to NAD 27.
@@ -105,47 +117,36 @@ pub extern "C" fn dagglehurst_to27<'a>(
     east: i64,
     answer: &mut [i64],
 ) -> u64
-    ensures answer { λ r. ⌜ r ≡ reply (mapAnswer one (fitted (converted Way.To27 (gridIn (now (header .entry)) (now (lat .entry)) (now (lon .entry))) north east) (now (answer .entry)))) ⌝ }
-    ensures room { λ r. ⌜ now (answer .exit) ≡ pairAfter (fitted (converted Way.To27 (gridIn (now (header .entry)) (now (lat .entry)) (now (lon .entry))) north east) (now (answer .entry))) (now (answer .entry)) ⌝ }
+    ensures answer { λ r. ⌜ r ≡ reply (mapAnswer one (fitted (mapAnswer pair27 (to27 (gridIn (now (header .entry)) (now (lat .entry)) (now (lon .entry))) (point83 north east))) (now (answer .entry)))) ⌝ }
+    ensures room { λ r. ⌜ now (answer .exit) ≡ pairAfter (fitted (mapAnswer pair27 (to27 (gridIn (now (header .entry)) (now (lat .entry)) (now (lon .entry))) (point83 north east))) (now (answer .entry))) (now (answer .entry)) ⌝ }
 {
-    let c = convert_pair(Way::To27, header_in(header), lat, lon, north, east);
-    put_answer(c, answer)
+    match to27(header_in(header), lat, lon, Point83::new(north, east)) {
+        Answer27::Refused(why) => reply::refused(why),
+        Answer27::Point(p) => {
+            let y = p.lat;
+            let x = p.lon;
+            put_answer(y.0, x.0, answer)
+        }
+    }
 }
 
-// Converts NAD 27 points to NAD 83, with one check of the grid.
+// Converts a request for each way, with one check of the grid.
 #[no_mangle]
-pub extern "C" fn dagglehurst_to83_all<'a>(
+pub extern "C" fn dagglehurst_convert<'a>(
     header: &'a [i64],
     lat: &'a [i64],
     lon: &'a [i64],
+    ways: &'a [u8],
     points: &'a [i64],
     answers: &mut [i64],
     refusals: &mut [u8],
 ) -> u64
-    ensures answer { λ r. ⌜ r ≡ reply (convertingAll (gridIn (now (header .entry)) (now (lat .entry)) (now (lon .entry))) (now (points .entry)) (now (answers .entry)) (now (refusals .entry))) ⌝ }
-    ensures answers { λ r. ⌜ now (answers .exit) ≡ answersAfter (convertingAll (gridIn (now (header .entry)) (now (lat .entry)) (now (lon .entry))) (now (points .entry)) (now (answers .entry)) (now (refusals .entry))) (converted Way.To83 (gridIn (now (header .entry)) (now (lat .entry)) (now (lon .entry)))) (now (points .entry)) (now (answers .entry)) ⌝ }
-    ensures refusals { λ r. ⌜ now (refusals .exit) ≡ refusalsAfter (convertingAll (gridIn (now (header .entry)) (now (lat .entry)) (now (lon .entry))) (now (points .entry)) (now (answers .entry)) (now (refusals .entry))) (converted Way.To83 (gridIn (now (header .entry)) (now (lat .entry)) (now (lon .entry)))) (now (points .entry)) (now (refusals .entry)) ⌝ }
+    ensures answer { λ r. ⌜ r ≡ reply (converting (gridIn (now (header .entry)) (now (lat .entry)) (now (lon .entry))) (now (ways .entry)) (now (points .entry)) (now (answers .entry)) (now (refusals .entry))) ⌝ }
+    ensures answers { λ r. ⌜ now (answers .exit) ≡ answersAfter (converting (gridIn (now (header .entry)) (now (lat .entry)) (now (lon .entry))) (now (ways .entry)) (now (points .entry)) (now (answers .entry)) (now (refusals .entry))) (requestOutcome (gridIn (now (header .entry)) (now (lat .entry)) (now (lon .entry))) (now (ways .entry)) (now (points .entry))) (now (answers .entry)) ⌝ }
+    ensures refusals { λ r. ⌜ now (refusals .exit) ≡ refusalsAfter (converting (gridIn (now (header .entry)) (now (lat .entry)) (now (lon .entry))) (now (ways .entry)) (now (points .entry)) (now (answers .entry)) (now (refusals .entry))) (requestOutcome (gridIn (now (header .entry)) (now (lat .entry)) (now (lon .entry))) (now (ways .entry)) (now (points .entry))) (now (refusals .entry)) ⌝ }
 {
     let h = header_in(header);
-    reply::filled(convert_all(Way::To83, h, lat, lon, points, answers, refusals))
-}
-
-// Takes NAD 83 figures back to NAD 27, with one check of the grid.
-#[no_mangle]
-pub extern "C" fn dagglehurst_to27_all<'a>(
-    header: &'a [i64],
-    lat: &'a [i64],
-    lon: &'a [i64],
-    points: &'a [i64],
-    answers: &mut [i64],
-    refusals: &mut [u8],
-) -> u64
-    ensures answer { λ r. ⌜ r ≡ reply (convertingAll (gridIn (now (header .entry)) (now (lat .entry)) (now (lon .entry))) (now (points .entry)) (now (answers .entry)) (now (refusals .entry))) ⌝ }
-    ensures answers { λ r. ⌜ now (answers .exit) ≡ answersAfter (convertingAll (gridIn (now (header .entry)) (now (lat .entry)) (now (lon .entry))) (now (points .entry)) (now (answers .entry)) (now (refusals .entry))) (converted Way.To27 (gridIn (now (header .entry)) (now (lat .entry)) (now (lon .entry)))) (now (points .entry)) (now (answers .entry)) ⌝ }
-    ensures refusals { λ r. ⌜ now (refusals .exit) ≡ refusalsAfter (convertingAll (gridIn (now (header .entry)) (now (lat .entry)) (now (lon .entry))) (now (points .entry)) (now (answers .entry)) (now (refusals .entry))) (converted Way.To27 (gridIn (now (header .entry)) (now (lat .entry)) (now (lon .entry)))) (now (points .entry)) (now (refusals .entry)) ⌝ }
-{
-    let h = header_in(header);
-    reply::filled(convert_all(Way::To27, h, lat, lon, points, answers, refusals))
+    reply::filled(convert_batch(h, lat, lon, ways, points, answers, refusals))
 }
 
 // Runs the list over request lines.
@@ -158,7 +159,7 @@ pub extern "C" fn dagglehurst_list<'a>(
     room: &mut [u8],
 ) -> u64
     ensures answer { λ r. ⌜ r ≡ reply (listing (gridIn (now (header .entry)) (now (lat .entry)) (now (lon .entry))) (now (requests .entry)) (now (room .entry))) ⌝ }
-    ensures room { λ r. ⌜ now (room .exit) ≡ roomAfter (listing (gridIn (now (header .entry)) (now (lat .entry)) (now (lon .entry))) (now (requests .entry)) (now (room .entry))) (listText (nodeCountOr0 (headerIn (now (header .entry)))) (checkedAfresh (gridIn (now (header .entry)) (now (lat .entry)) (now (lon .entry)))) (now (requests .entry))) (now (room .entry)) ⌝ }
+    ensures room { λ r. ⌜ now (room .exit) ≡ roomAfter (listing (gridIn (now (header .entry)) (now (lat .entry)) (now (lon .entry))) (now (requests .entry)) (now (room .entry))) (listText (gridIn (now (header .entry)) (now (lat .entry)) (now (lon .entry))) (now (requests .entry))) (now (room .entry)) ⌝ }
 {
     reply::written(listing::list(header_in(header), lat, lon, requests, room))
 }

@@ -1,6 +1,5 @@
 // Numbers in lent slices: a header, as south, west, dlat, dlon, rows and cols, and an answer, latitude first.
 use super::reply;
-use convert::pairs::Converted;
 use grid::Header;
 use slices::number_at;
 use slices::put;
@@ -8,11 +7,10 @@ ghost use mathlib.Core.Path.{_≡_};
 ghost use Prim.Native.Nat.{_≤_};
 ghost use lib.ListN.{length};
 ghost use Rattle.laws.specs.Over.{over};
-ghost use Rattle.figures.specs.Outcome.{mapAnswer};
-ghost use Rattle.convert.specs.Pairs.{pairOutcome};
+ghost use Rattle.figures.specs.Outcome.{answered, mapAnswer};
 ghost use Rattle.dagglehurst.specs.Reply.{reply};
 ghost use Rattle.dagglehurst.specs.Header.{headerIn, numbers};
-ghost use Rattle.dagglehurst.specs.Points.{fitted, one, pairAfter};
+ghost use Rattle.dagglehurst.specs.Points.{pair, fitted, one, pairAfter};
 
 // The numbers of a header.
 pub(crate) const HEADER: usize = 6;
@@ -45,20 +43,15 @@ pub(crate) fn put_header(h: Header, s: &mut [i64])
     put(s, 5, h.cols);
 }
 
-// Stores one answer at the front of the room.
-pub(crate) fn put_answer(c: Converted, room: &mut [i64]) -> u64
-    ensures answer { λ r. ⌜ r ≡ reply (mapAnswer one (fitted (pairOutcome c) (now (room .entry)))) ⌝ }
-    ensures room { λ r. ⌜ now (room .exit) ≡ pairAfter (fitted (pairOutcome c) (now (room .entry))) (now (room .entry)) ⌝ }
+// Stores an answer at the front of the room.
+pub(crate) fn put_answer(lat: i64, lon: i64, room: &mut [i64]) -> u64
+    ensures answer { λ r. ⌜ r ≡ reply (mapAnswer one (fitted (answered (pair lat lon)) (now (room .entry)))) ⌝ }
+    ensures room { λ r. ⌜ now (room .exit) ≡ pairAfter (fitted (answered (pair lat lon)) (now (room .entry))) (now (room .entry)) ⌝ }
 {
-    match c {
-        Converted::Refused(why) => reply::refused(why),
-        Converted::At(lat, lon) => {
-            if room.len() < 2 {
-                return reply::too_short(2);
-            }
-            room[0] = lat;
-            room[1] = lon;
-            reply::answered(1)
-        }
+    if room.len() < 2 {
+        return reply::too_short(2);
     }
+    put(room, 0, lat);
+    put(room, 1, lon);
+    reply::answered(1)
 }

@@ -1,12 +1,12 @@
 // The one number that an exported function answers: 256 times a value, plus the number of the refusal, or 0.
-use convert::many::Filled;
+use convert::batch::Filled;
 use figures::Refusal;
 use writing::Written;
 ghost use mathlib.Core.Path.{_≡_};
 ghost use Prim.Native.Nat.{_≤_};
 ghost use Rattle.figures.specs.Outcome.{answered, refusal};
 ghost use Rattle.writing.specs.Writing.{writtenOutcome};
-ghost use Rattle.convert.specs.Many.{manyOutcome};
+ghost use Rattle.convert.specs.Batch.{batchOutcome};
 ghost use Rattle.dagglehurst.specs.Reply.{capped, reply};
 
 const MAX_VALUE: usize = 72_057_594_037_927_935;
@@ -40,10 +40,10 @@ pub(crate) fn written(w: Written) -> u64
 }
 
 pub(crate) fn filled(f: Filled) -> u64
-    ensures { λ r. ⌜ r ≡ reply (manyOutcome f) ⌝ }
+    ensures { λ r. ⌜ r ≡ reply (batchOutcome f) ⌝ }
 {
     match f {
-        Filled::Points(n) => answered(n),
+        Filled::Requests(n) => answered(n),
         Filled::Refused(why) => refused(why),
     }
 }

@@ -1,6 +1,7 @@
 // One region's shift grid, which document 01 calls the sheet: its header, and the checks that a grid passes.
 // A grid is a header and two lent slices, the latitude and the longitude shifts of its nodes in hundred-thousandths of an arc
 // second. Nodes run from the southernmost row north, each row from west to east.
+pub mod layout;
 mod nodes;
 mod rules;
 
@@ -8,7 +9,7 @@ use figures::Nad27;
 use figures::Refusal;
 ghost use mathlib.Core.Path.{_≡_};
 ghost use Rattle.grid.specs.Grid.{header, gridOf};
-ghost use Rattle.grid.specs.Check.{checkOutcome, layout, verdict};
+ghost use Rattle.grid.specs.Check.{checkOutcome, verdict};
 ghost use Rattle.grid.specs.Nodes.{beyondRange};
 
 // South and west edge, spacing of rows and columns in thousandths of an arc second, number of rows and columns.
@@ -56,29 +57,10 @@ pub enum Checked {
 pub fn check<'a>(h: Header, lat: &'a [i64], lon: &'a [i64]) -> Checked
     ensures { λ r. ⌜ checkOutcome r ≡ verdict (gridOf h (now (lat .entry)) (now (lon .entry))) ⌝ }
 {
-    match check_layout(h, lat, lon) {
+    match layout::check(h, lat, lon) {
         Checked::Refused(why) => Checked::Refused(why),
         Checked::Passes => nodes::check_nodes(h.shape(), lat, lon),
     }
-}
-
-// The checks that look at no node: 2, then 5.
-pub fn check_layout<'a>(h: Header, lat: &'a [i64], lon: &'a [i64]) -> Checked
-    ensures { λ r. ⌜ checkOutcome r ≡ layout (gridOf h (now (lat .entry)) (now (lon .entry))) ⌝ }
-{
-    let rule = h.broken_rule();
-    if rule != 0 {
-        return Checked::Refused(Refusal::Rule(rule));
-    }
-    let shape = h.shape();
-    let n = shape.rows * shape.cols;
-    if lat.len() < n {
-        return Checked::Refused(Refusal::NodeRoom(n));
-    }
-    if lon.len() < n {
-        return Checked::Refused(Refusal::NodeRoom(n));
-    }
-    Checked::Passes
 }
 
 // Whether a shift is beyond its range.

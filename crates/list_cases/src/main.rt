@@ -5,6 +5,7 @@
 //     damaged_lines       lines of 64, 65 and 40,000 bytes, the last longer than four blocks, empty lines, a hundred of them in a row,
 //                         bytes that are no text, a carriage return, a last line without its newline, and good lines between them
 //     refused_sheet       a grid whose header breaks rule 3 (dlat=900001): the refusal alone, whatever was asked
+//     steep_sheet         a grid whose longitude shifts are too steep for a way back (90,000 from west to east): the refusal alone
 //     no_sheet            no sheet.txt
 //     folder_for_sheet    sheet.txt is a folder: it opens, and cannot be read
 //     longest_sheet       a sheet of 48,000 bytes, the longest file that is read: it is judged, and refused for what follows its end line

@@ -1,6 +1,7 @@
 // Standard output.
 use figures::Refusal;
 use libc::STDOUT_FILENO;
+use requests::Reply;
 use writing::Written;
 
 // Sends what was written to the front of the room, or why it was not. Answers whether to go on.
@@ -16,12 +17,8 @@ pub(crate) fn put(written: Written, room: &[u8]) -> bool {
 
 // `no=NUMBER,PLACE`
 pub(crate) fn refuse(why: Refusal) {
-    let mut line = [0u8; 45];
-    let n = lines::write_line(
-        b"no=",
-        &[signed(why.number()), signed(why.place())],
-        &mut line,
-    ).bytes();
+    let mut line = [0u8; Reply::MAX_TEXT];
+    let n = Reply::no_sheet(why).write(&mut line).bytes();
     send(n, &line);
 }
 
@@ -35,12 +32,4 @@ fn send(n: usize, room: &[u8]) -> bool {
         os::fail(b"standard output");
     }
     sent
-}
-
-// A number as the writer of lines takes it. None that is printed comes near the limit.
-fn signed(n: usize) -> i64 {
-    if n < 9_223_372_036_854_775_807 {
-        return n as i64;
-    }
-    9_223_372_036_854_775_807
 }

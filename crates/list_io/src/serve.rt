@@ -19,17 +19,21 @@ struct Turned {
     pub next: Next,
 }
 
-// The most bytes that are read at once.
-const BLOCK: usize = 8_192;
+// The most bytes that are read at once. Every read has the grid checked again, so that few large reads are better than many small ones.
+const BLOCK: usize = 65_536;
 
 // Room for the longest line in reply to each byte of a block: the replies to a block always fit.
 const ROOM: usize = Reply::MAX_TEXT * BLOCK;
 
 pub(crate) fn serve<'a>(requests: i32, h: Header, lat: &'a [i64], lon: &'a [i64]) {
     let mut room = [0u8; ROOM];
-    let begun = listing::begin(h, lat, lon, &mut room);
-    if put(begun, &room) {
-        take_turns(requests, h, lat, lon, &mut room);
+    serve_in(requests, h, lat, lon, &mut room);
+}
+
+fn serve_in<'a>(requests: i32, h: Header, lat: &'a [i64], lon: &'a [i64], room: &mut [u8]) {
+    let begun = listing::begin(h, lat, lon, room);
+    if put(begun, room) {
+        take_turns(requests, h, lat, lon, room);
     }
 }
 

@@ -9,42 +9,36 @@ use lib.IntN.{pos}
 use Rattle.laws.specs.Logic.{either-way}
 use Rattle.laws.specs.Over.{over}
 use Rattle.grid.specs.Grid.{Grid}
-use Rattle.grid.specs.Rules.{nodeCountOr0}
-use Rattle.grid.specs.Check.{Passes}
 use Rattle.requests.specs.Requests.{requestIn}
-use Rattle.requests.specs.Replies.{Conversions, checkedOnce, checkedAfresh, isAnswer, replyTo}
+use Rattle.requests.specs.Replies.{isAnswer, replyTo}
 use Rattle.requests.specs.declared.Reply.{Reply}
-use Rattle.listing.specs.Lines.{replies, rest, texts, answers, refusals}
+use Rattle.listing.specs.Lines.{requestsIn, replies, rest, texts, answers, refusals}
 use Rattle.listing.specs.Listing.{listText}
 use Rattle.listing.specs.Pieces.{fresh, fedReplies, fedText, fedList}
 use Rattle.listing.specs.Joined.{joined, fedTexts, fedLists, inPieces}
 use Rattle.listing.specs.declared.Listing.{Listing}
 use Rattle.listing.proofs.Cuts.{cut-text, cut-list, too-long}
-use Rattle.listing.proofs.Whole.{list-text, once-afresh}
+use Rattle.listing.proofs.Whole.{list-text}
 
 -- ---- pieces
 
 -- a list that was fed already, as `fresh` was by nothing
-module _ (c : Conversions) where
-  pub feed-joined : (s : Listing) → s ≡ fedList c s [] → (ps : List (List ℕ)) → (fedTexts c s ps ≡ fedText c s (joined ps)) × (fedLists c s ps ≡ fedList c s (joined ps))
-  unfolding fedText fedReplies replies texts
+module _ (g : Grid) where
+  pub feed-joined : (s : Listing) → s ≡ fedList g s [] → (ps : List (List ℕ)) → (fedTexts g s ps ≡ fedText g s (joined ps)) × (fedLists g s ps ≡ fedList g s (joined ps))
+  unfolding fedText fedReplies replies requestsIn texts
   feed-joined s e [] = (refl, e)
   feed-joined s e (p ∷ ps) =
-      let r = feed-joined (fedList c s p) (sym (ap (fedList c s) (append-nil p)) ∙ cut-list c s p []) ps in
-      (ap (λ t. fedText c s p ++ t) (r .0) ∙ sym (cut-text c s p (joined ps)), r .1 ∙ sym (cut-list c s p (joined ps)))
+      let r = feed-joined (fedList g s p) (sym (ap (fedList g s) (append-nil p)) ∙ cut-list g s p []) ps in
+      (ap (λ t. fedText g s p ++ t) (r .0) ∙ sym (cut-text g s p (joined ps)), r .1 ∙ sym (cut-list g s p (joined ps)))
 
-  fresh-fed : fresh ≡ fedList c fresh []
-  unfolding fedList fedReplies replies rest answers refusals over
+  fresh-fed : fresh ≡ fedList g fresh []
+  unfolding fedList fedReplies replies requestsIn rest answers refusals over
   fresh-fed = refl
 
--- the pieces written, joined, are what the list writes for the pieces read, joined
-pub in-pieces : (g : Grid) → Passes g → (pieces : List (List ℕ)) → length (joined pieces) < 2 ^ 63
-    → inPieces (nodeCountOr0 (g .header)) (checkedOnce g) pieces ≡ listText (nodeCountOr0 (g .header)) (checkedAfresh g) (joined pieces)
-unfolding inPieces
-in-pieces g e pieces b =
-    let c = checkedOnce g in
-    let r = feed-joined c fresh (fresh-fed c) pieces in
-    rw (r .0, r .1) (sym (list-text (nodeCountOr0 (g .header)) c (joined pieces) b) ∙ ap (λ d. listText (nodeCountOr0 (g .header)) d (joined pieces)) (once-afresh g e))
+  -- the pieces written, joined, are what the list writes for the pieces read, joined
+  pub in-pieces : (pieces : List (List ℕ)) → length (joined pieces) < 2 ^ 63 → inPieces g pieces ≡ listText g (joined pieces)
+  unfolding inPieces
+  in-pieces pieces b = let r = feed-joined fresh fresh-fed pieces in rw (r .0, r .1) (sym (list-text g (joined pieces) b))
 
 -- ---- totals
 
@@ -59,5 +53,5 @@ all-counted (r ∷ rs) =
 -- ---- a line above 64 bytes
 
 -- is refused 1, however long it is
-pub long-line : (c : Conversions) (line : List ℕ) → 64 < length line → replyTo c (requestIn line) ≡ Reply.No (pos 1)
-long-line c line h = ap (replyTo c) (too-long line h)
+pub long-line : (g : Grid) (line : List ℕ) → 64 < length line → replyTo g (requestIn line) ≡ Reply.No (pos 1)
+long-line g line h = ap (replyTo g) (too-long line h)

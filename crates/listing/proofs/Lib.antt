@@ -1,6 +1,9 @@
 pub mod Cuts
 pub mod Steps
 pub mod Holding
+pub mod RequestLaws
+pub mod ReplyLaws
+pub mod Batches
 pub mod Runs
 pub mod Whole
 pub mod Demands

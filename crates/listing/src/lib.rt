@@ -1,28 +1,37 @@
 // The list: one reply for each request line, for a whole text or as its bytes come.
 mod held;
 mod putting;
+mod reading;
+mod replying;
 
 use figures::Refusal;
 use grid::Checked;
 use grid::Header;
 use requests::Reply;
+use slices::least;
 use writing::Written;
+use writing::write_text;
 ghost use mathlib.Core.Path.{_≡_};
+ghost use mathlib.Core.List.{[]};
+ghost use lib.ListN.{take};
 ghost use Rattle.writing.specs.Writing.{inRoom, roomAfter, writtenOutcome, Wrote};
-ghost use Rattle.requests.specs.Replies.{checkedAfresh, checkedOnce};
 ghost use Rattle.grid.specs.Grid.{gridOf};
-ghost use Rattle.grid.specs.Rules.{nodeCountOr0};
+ghost use Rattle.grid.specs.Check.{Passes};
 ghost use Rattle.listing.specs.Listing.{sheetText, listText, beginning, listing};
-ghost use Rattle.listing.specs.Pieces.{fresh, fedText, fedList, endText, listAfter};
+ghost use Rattle.listing.specs.Pieces.{fresh, fedText, fedList, feeding, endText, listingOf, heldLine, listAfter};
 
 // A list as far as it has come.
 pub struct Listing {
     // The first bytes of the line that has not ended, and how many. 65 stand for every line above 64 bytes.
     held: [u8; 65],
     length: usize,
-    // How many lines were answered, and how many were refused.
-    answered: i64,
-    refused: i64,
+    pub totals: Totals,
+}
+
+// How many lines were answered, and how many were refused.
+pub struct Totals {
+    pub answered: i64,
+    pub refused: i64,
 }
 
 // What a piece comes to: the list behind it, and the bytes that were written.
@@ -36,19 +45,44 @@ impl Listing {
     pub fn new() -> Listing
         ensures { λ r. ⌜ r ≡ fresh ⌝ }
     {
+        Listing::between(Totals {
+            answered: 0,
+            refused: 0,
+        })
+    }
+
+    // A list that goes on from plain parts: the line that has not ended, and the totals.
+    pub fn resumed(line: &[u8], totals: Totals) -> Listing
+        ensures { λ r. ⌜ r ≡ listingOf (take 65 (now (line .entry))) totals ⌝ }
+    {
+        Listing::between(totals).hold(line)
+    }
+
+    // Writes the line that has not ended, 65 bytes at the most.
+    pub fn write_line(self, room: &mut [u8]) -> Written
+        ensures { λ r. ⌜ Wrote (heldLine self) (now (room .entry)) (now (room .exit)) r ⌝ }
+    {
+        let held = self.held;
+        let kept = least(self.length, 65);
+        write_text(&held[..kept], room)
+    }
+
+    // No line is under way.
+    pub(crate) fn between(totals: Totals) -> Listing
+        ensures { λ r. ⌜ r ≡ listingOf [] totals ⌝ }
+    {
         Listing {
             held: [0; 65],
             length: 0,
-            answered: 0,
-            refused: 0,
+            totals,
         }
     }
 }
 
-// The first line of a list. It is the check of the grid: 2, 5, 3, 4, then 8.
+// The first line of a list: 2, 5, 3, 4, then 8.
 pub fn begin<'a>(h: Header, lat: &'a [i64], lon: &'a [i64], room: &mut [u8]) -> Written
     ensures answer { λ r. ⌜ writtenOutcome r ≡ beginning (gridOf h (now (lat .entry)) (now (lon .entry))) (now (room .entry)) ⌝ }
-    ensures text { λ r. ⌜ now (room .exit) ≡ roomAfter (writtenOutcome r) (sheetText (nodeCountOr0 h)) (now (room .entry)) ⌝ }
+    ensures text { λ r. ⌜ now (room .exit) ≡ roomAfter (writtenOutcome r) (sheetText (gridOf h (now (lat .entry)) (now (lon .entry)))) (now (room .entry)) ⌝ }
 {
     match grid::check(h, lat, lon) {
         Checked::Refused(why) => Written::Refused(why),
@@ -56,8 +90,8 @@ pub fn begin<'a>(h: Header, lat: &'a [i64], lon: &'a [i64], room: &mut [u8]) -> 
     }
 }
 
-// The replies to the lines that end in the next piece of the requests, over a grid that `begin` has checked. Where the room is too
-// short (8), the list stays as it was.
+// The replies to the lines that end in the next piece of the requests: 2, 5, 3, 4, then 8, for an empty piece too. Where it is refused, the
+// list stays as it was.
 pub fn feed<'a>(
     list: Listing,
     h: Header,
@@ -66,9 +100,32 @@ pub fn feed<'a>(
     piece: &[u8],
     room: &mut [u8],
 ) -> Fed
-    ensures answer { λ r. ⌜ writtenOutcome (r .written) ≡ inRoom (fedText (checkedOnce (gridOf h (now (lat .entry)) (now (lon .entry)))) list (now (piece .entry))) (now (room .entry)) ⌝ }
-    ensures list { λ r. ⌜ r .list ≡ listAfter (writtenOutcome (r .written)) (fedList (checkedOnce (gridOf h (now (lat .entry)) (now (lon .entry)))) list (now (piece .entry))) list ⌝ }
-    ensures text { λ r. ⌜ now (room .exit) ≡ roomAfter (writtenOutcome (r .written)) (fedText (checkedOnce (gridOf h (now (lat .entry)) (now (lon .entry)))) list (now (piece .entry))) (now (room .entry)) ⌝ }
+    ensures answer { λ r. ⌜ writtenOutcome (r .written) ≡ feeding (gridOf h (now (lat .entry)) (now (lon .entry))) list (now (piece .entry)) (now (room .entry)) ⌝ }
+    ensures list { λ r. ⌜ r .list ≡ listAfter (writtenOutcome (r .written)) (fedList (gridOf h (now (lat .entry)) (now (lon .entry))) list (now (piece .entry))) list ⌝ }
+    ensures text { λ r. ⌜ now (room .exit) ≡ roomAfter (writtenOutcome (r .written)) (fedText (gridOf h (now (lat .entry)) (now (lon .entry))) list (now (piece .entry))) (now (room .entry)) ⌝ }
+{
+    let checked = grid::check(h, lat, lon);
+    match checked {
+        Checked::Refused(why) => Fed {
+            list,
+            written: Written::Refused(why),
+        },
+        Checked::Passes => feed_checked(list, h, lat, lon, piece, room),
+    }
+}
+
+fn feed_checked<'a>(
+    list: Listing,
+    h: Header,
+    lat: &'a [i64],
+    lon: &'a [i64],
+    piece: &[u8],
+    room: &mut [u8],
+) -> Fed
+    requires { ⌜ Passes (gridOf h (now lat) (now lon)) ⌝ }
+    ensures answer { λ r. ⌜ writtenOutcome (r .written) ≡ inRoom (fedText (gridOf h (now (lat .entry)) (now (lon .entry))) list (now (piece .entry))) (now (room .entry)) ⌝ }
+    ensures list { λ r. ⌜ r .list ≡ listAfter (writtenOutcome (r .written)) (fedList (gridOf h (now (lat .entry)) (now (lon .entry))) list (now (piece .entry))) list ⌝ }
+    ensures text { λ r. ⌜ now (room .exit) ≡ roomAfter (writtenOutcome (r .written)) (fedText (gridOf h (now (lat .entry)) (now (lon .entry))) list (now (piece .entry))) (now (room .entry)) ⌝ }
 {
     let lacks = putting::lacking(list, h, lat, lon, piece, room.len());
     if lacks != 0 {
@@ -96,10 +153,10 @@ pub fn finish(list: Listing, room: &mut [u8]) -> Written
     Written::Bytes(putting::put_end(list, room))
 }
 
-// The whole list for a request text: 2, 5, 3, 4, then 8. The grid is checked once.
+// The whole list for a request text: 2, 5, 3, 4, then 8.
 pub fn list<'a>(h: Header, lat: &'a [i64], lon: &'a [i64], text: &[u8], room: &mut [u8]) -> Written
     ensures answer { λ r. ⌜ writtenOutcome r ≡ listing (gridOf h (now (lat .entry)) (now (lon .entry))) (now (text .entry)) (now (room .entry)) ⌝ }
-    ensures text { λ r. ⌜ now (room .exit) ≡ roomAfter (writtenOutcome r) (listText (nodeCountOr0 h) (checkedAfresh (gridOf h (now (lat .entry)) (now (lon .entry)))) (now (text .entry))) (now (room .entry)) ⌝ }
+    ensures text { λ r. ⌜ now (room .exit) ≡ roomAfter (writtenOutcome r) (listText (gridOf h (now (lat .entry)) (now (lon .entry))) (now (text .entry))) (now (room .entry)) ⌝ }
 {
     match grid::check(h, lat, lon) {
         Checked::Refused(why) => Written::Refused(why),
@@ -115,7 +172,8 @@ fn list_checked<'a>(
     text: &[u8],
     room: &mut [u8],
 ) -> Written
-    ensures { λ r. ⌜ Wrote (listText (nodeCountOr0 h) (checkedOnce (gridOf h (now (lat .entry)) (now (lon .entry)))) (now (text .entry))) (now (room .entry)) (now (room .exit)) r ⌝ }
+    requires { ⌜ Passes (gridOf h (now lat) (now lon)) ⌝ }
+    ensures { λ r. ⌜ Wrote (listText (gridOf h (now (lat .entry)) (now (lon .entry))) (now (text .entry))) (now (room .entry)) (now (room .exit)) r ⌝ }
 {
     let needed = putting::put_list(h, lat, lon, text, &mut room[0..0]);
     if room.len() < needed {

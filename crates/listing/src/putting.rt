@@ -1,19 +1,28 @@
 // The writers of the parts of a list. In a room of no bytes they only count.
 use super::Listing;
+use super::Totals;
 use super::held::one_more;
+use super::reading::BATCH;
+use super::reading::NUMBERS;
+use super::reading::read_batch;
+use super::replying::Replied;
+use super::replying::put_answers;
+use convert::batch::convert_batch;
 use grid::Header;
 use requests::Reply;
 use slices::least;
 use writing::saturating_add;
-ghost use Prim.Native.Nat.{_<_};
+ghost use Prim.Native.Nat.{_*_, _<_, _≤_};
+ghost use mathlib.Core.List.{map};
 ghost use lib.ListN.{length};
 ghost use Rattle.writing.specs.Writing.{Put};
-ghost use Rattle.requests.specs.Replies.{checkedOnce};
 ghost use Rattle.grid.specs.Grid.{gridOf};
-ghost use Rattle.grid.specs.Rules.{nodeCountOr0};
+ghost use Rattle.grid.specs.Check.{Passes};
+ghost use Rattle.requests.specs.Replies.{replyTo};
 ghost use Rattle.listing.specs.Listing.{listText};
 ghost use Rattle.listing.specs.Pieces.{fedText, endText};
-ghost use Rattle.listing.specs.Needs.{Lacking, Stepped, Replied};
+ghost use Rattle.listing.specs.Batch.{maxBatch, requestAt, upTo, RepliesPut};
+ghost use Rattle.listing.specs.Needs.{Lacking, FedFront, FedWhole};
 
 // How far a text was worked: the list behind it, how many of its bytes were read, and how many were written.
 pub(crate) struct Advance {
@@ -32,8 +41,8 @@ pub(crate) fn lacking<'a>(
     piece: &[u8],
     room: usize,
 ) -> usize
-    requires { ⌜ room < 9223372036854775808 ⌝ }
-    ensures { λ r. ⌜ Lacking (fedText (checkedOnce (gridOf h (now (lat .entry)) (now (lon .entry)))) list (now (piece .entry))) (length (now (piece .entry))) room r ⌝ }
+    requires { ⌜ Passes (gridOf h (now lat) (now lon)) × (room < 9223372036854775808) ⌝ }
+    ensures { λ r. ⌜ Lacking (fedText (gridOf h (now (lat .entry)) (now (lon .entry))) list (now (piece .entry))) (length (now (piece .entry))) room r ⌝ }
 {
     if piece.len() <= room / Reply::MAX_TEXT {
         return 0;
@@ -55,14 +64,15 @@ pub(crate) fn put_replies<'a>(
     piece: &[u8],
     room: &mut [u8],
 ) -> Advance
-    ensures { λ r. ⌜ Replied (checkedOnce (gridOf h (now (lat .entry)) (now (lon .entry)))) list (now (piece .entry)) (now (room .entry)) (now (room .exit)) r ⌝ }
+    requires { ⌜ Passes (gridOf h (now lat) (now lon)) ⌝ }
+    ensures { λ r. ⌜ FedWhole (gridOf h (now (lat .entry)) (now (lon .entry))) list (now (piece .entry)) (now (room .entry)) (now (room .exit)) r ⌝ }
 {
     let mut next = list.hold(&piece[0..0]);
     let mut taken: usize = 0;
     let mut bytes: usize = 0;
     while taken < piece.len() {
         let from = least(bytes, room.len());
-        let done = put_line(next, h, lat, lon, &piece[taken..], &mut room[from..]);
+        let done = put_batch(next, h, lat, lon, &piece[taken..], &mut room[from..]);
         next = done.list;
         taken += done.taken;
         bytes = saturating_add(bytes, done.bytes);
@@ -74,8 +84,9 @@ pub(crate) fn put_replies<'a>(
     }
 }
 
-// The reply to the line that ends first in a text, if one does.
-fn put_line<'a>(
+// The replies to the first lines that end in a text, as many as a batch holds: the lines are read, converted by one call, and replied
+// to. If none ends, the text is held.
+fn put_batch<'a>(
     list: Listing,
     h: Header,
     lat: &'a [i64],
@@ -83,35 +94,63 @@ fn put_line<'a>(
     text: &[u8],
     room: &mut [u8],
 ) -> Advance
-    ensures { λ r. ⌜ Stepped (checkedOnce (gridOf h (now (lat .entry)) (now (lon .entry)))) list (now (text .entry)) (now (room .entry)) (now (room .exit)) r ⌝ }
+    requires { ⌜ Passes (gridOf h (now lat) (now lon)) ⌝ }
+    ensures { λ r. ⌜ FedFront (gridOf h (now (lat .entry)) (now (lon .entry))) list (now (text .entry)) (now (room .entry)) (now (room .exit)) r ⌝ }
 {
-    let end = bytes::scan::find(text, 0, text.len(), b'\n');
-    if text.len() <= end {
+    let mut ways = [0u8; BATCH];
+    let mut points = [0i64; NUMBERS];
+    let batch = read_batch(list, text, &mut ways, &mut points);
+    let n = batch.lines;
+    if n == 0 {
         return Advance {
             list: list.hold(text),
-            taken: end,
+            taken: text.len(),
             bytes: 0,
         };
     }
-    let reply = list.reply(h, lat, lon, &text[..end]);
-    let n = reply.write(room).bytes();
+    let before = list.totals;
+    let done = answer_batch(before, h, lat, lon, n, &ways, &points, room);
+    let totals = done.totals;
     Advance {
-        list: list.count(reply),
-        taken: end + 1,
-        bytes: n,
+        list: Listing::between(totals),
+        taken: batch.taken,
+        bytes: done.bytes,
     }
+}
+
+// The second and the third step, for `n` requests.
+fn answer_batch<'a>(
+    totals: Totals,
+    h: Header,
+    lat: &'a [i64],
+    lon: &'a [i64],
+    n: usize,
+    ways: &'a [u8],
+    points: &'a [i64],
+    room: &mut [u8],
+) -> Replied
+    requires { ⌜ Passes (gridOf h (now lat) (now lon)) × (n ≤ maxBatch) × (n ≤ length (now ways)) × (2 * n ≤ length (now points)) ⌝ }
+    ensures { λ r. ⌜ RepliesPut totals (map (replyTo (gridOf h (now (lat .entry)) (now (lon .entry)))) (upTo (requestAt (now (ways .entry)) (now (points .entry))) n)) n (now (room .entry)) (now (room .exit)) r ⌝ }
+{
+    let mut answers = [0i64; NUMBERS];
+    let mut refusals = [0u8; BATCH];
+    convert_batch(h, lat, lon, &ways[..n], points, &mut answers, &mut refusals);
+    put_answers(totals, n, ways, &answers, &refusals, room)
 }
 
 // The last request line, if it has no newline, and the totals.
 pub(crate) fn put_end(list: Listing, room: &mut [u8]) -> usize
     ensures { λ r. ⌜ Put (endText list) (now (room .entry)) (now (room .exit)) r ⌝ }
 {
+    let totals = list.totals;
     if list.length == 0 {
-        return Reply::Done(list.answered, list.refused).write(room).bytes();
+        return Reply::Done(totals.answered, totals.refused)
+            .write(room)
+            .bytes();
     }
     let at = Reply::No(1).write(room).bytes();
     let from = least(at, room.len());
-    let done = Reply::Done(list.answered, one_more(list.refused));
+    let done = Reply::Done(totals.answered, one_more(totals.refused));
     saturating_add(at, done.write(&mut room[from..]).bytes())
 }
 
@@ -123,7 +162,8 @@ pub(crate) fn put_list<'a>(
     text: &[u8],
     room: &mut [u8],
 ) -> usize
-    ensures { λ r. ⌜ Put (listText (nodeCountOr0 h) (checkedOnce (gridOf h (now (lat .entry)) (now (lon .entry)))) (now (text .entry))) (now (room .entry)) (now (room .exit)) r ⌝ }
+    requires { ⌜ Passes (gridOf h (now lat) (now lon)) ⌝ }
+    ensures { λ r. ⌜ Put (listText (gridOf h (now (lat .entry)) (now (lon .entry))) (now (text .entry))) (now (room .entry)) (now (room .exit)) r ⌝ }
 {
     let start = Reply::Sheet(h.node_count() as i64).write(room).bytes();
     let from = least(start, room.len());

@@ -2,8 +2,6 @@
 use super::case::Case;
 use convert::Answer27;
 use convert::Answer83;
-use convert::forward;
-use convert::inverse;
 use convert::to27;
 use convert::to83;
 use figures::Point27;
@@ -21,8 +19,6 @@ pub(crate) fn call<'a>(case: Case, h: Header, lat: &'a [i64], lon: &'a [i64]) ->
         b'8' => came83(to83(h, lat, lon, given.point27()), answer.point83()),
         b'2' => came27(to27(h, lat, lon, given.point83()), answer.point27()),
         b't' => both(h, lat, lon, given.point27(), answer.point83()),
-        b'r' => came83(forward(h, lat, lon, given.point27()), answer.point83()),
-        b'v' => came27(inverse(h, lat, lon, given.point83()), answer.point27()),
         _ => Outcome::answered(false),
     }
 }

@@ -10,7 +10,6 @@
 //     to83 LAT,LON ANSWER   the point is converted, and answered (`ok LAT,LON`) or refused (`no NUMBER,PLACE`)
 //     to27 LAT,LON ANSWER   the same for the figures, and a point for an answer
 //     both LAT,LON ANSWER   as `to83`, and the answer taken back is the point
-//     forward, inverse      as `to83` and `to27`, of a grid that is taken as checked
 //
 // Empty lines and lines that start with `#` are passed over.
 mod calls;

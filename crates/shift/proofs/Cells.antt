@@ -12,8 +12,8 @@ use Rattle.shift.specs.declared.Cell.{Cell}
 
 -- the point `x`, `y` lies in the cell `k`, a side of it included
 pub record CellOf (s : Shape) (x y : ℕ) (k : Cell) : Type 0 where
-  pub along : InCell (s .dlon) (s .cols - 2) x (k .col) (k .a) (k .b)
-  pub up : InCell (s .dlat) (s .rows - 2) y (k .row) (k .c) (k .d)
+  pub along : InCell (s .dlon) (s .cols - 2) x (k .col) (k .distances .a) (k .distances .b)
+  pub up : InCell (s .dlat) (s .rows - 2) y (k .row) (k .distances .c) (k .distances .d)
 
 module _ {s : Shape} (z : Extent s) where
   -- the edges, as `bilinear` has them
@@ -49,7 +49,7 @@ module _ {s : Shape} (z : Extent s) where
       }
 
   module _ {k : Cell} (c : CellIn s k) where
-    pub weighted : Weighted k
+    pub weighted : Weighted (k .distances)
     weighted = record { wide = omega (arith, z, c); narrow = omega (arith, z, c); high = omega (arith, z, c); low = omega (arith, z, c) }
 
     -- its four corners are nodes

@@ -1,5 +1,4 @@
 pub mod Rounding
 pub mod Sums
 pub mod Cells
-pub mod Cases
 pub mod OnGrid

@@ -12,25 +12,20 @@ use Rattle.bilinear.specs.Axis.{Near, near16, on-axis, Among}
 use Rattle.bilinear.specs.Surface.{surface, SlopeBound, surface-is, Nearest}
 use Rattle.bilinear.specs.Answers.{lipschitz, shift-between, shift-node}
 use Rattle.bilinear.specs.Search.{Regular}
-use Rattle.figures.specs.Outcome.{answered}
-use Rattle.figures.proofs.Laws.{passed-first}
-use Rattle.grid.specs.Grid.{Grid}
-use Rattle.grid.specs.Rules.{shape}
 use Rattle.grid.specs.Nodes.{maxShift, node}
 use Rattle.grid.specs.Needs.{Extent}
 use Rattle.grid.specs.declared.Shape.{Shape}
-use Rattle.grid.proofs.RuleLaws.{Between, extent}
+use Rattle.grid.proofs.RuleLaws.{Between}
 use Rattle.grid.proofs.NodeLaws.{Sound}
-use Rattle.grid.proofs.Passing.{Good}
 use Rattle.shift.specs.Round.{nearest}
-use Rattle.shift.specs.Shift.{numerator, fourCorner, cornersAt, southwest, northwest, componentIn, cellAt, component, shiftOf, shiftAt, raise}
-use Rattle.shift.specs.Needs.{CellIn, CornersIn}
+use Rattle.shift.specs.Shift.{numerator, fourCorner, cornersAt, southwest, northwest, componentIn, cellAt, component, raise}
+use Rattle.shift.specs.Needs.{CellIn, Weighted, CornersIn}
 use Rattle.shift.specs.declared.Cell.{Cell}
 use Rattle.shift.specs.declared.Corners.{Corners}
+use Rattle.shift.specs.declared.Distances.{Distances}
 use Rattle.shift.proofs.Rounding.{nearest-raised, NearestAway, nearest-away}
 use Rattle.shift.proofs.Sums.{four-corner-within}
 use Rattle.shift.proofs.Cells.{CellOf, edges, spacings, cell-of-point, cell-in, corners-in, weighted}
-use Rattle.shift.proofs.Cases.{node-not-beyond, none-beyond, on-grid}
 
 -- ---- raised shifts
 
@@ -56,7 +51,7 @@ term : {S : ℤ} (p q : ℕ) → Within maxShift S → let t = S *ℤ pos p *ℤ
 term {S} p q h = omega (arith, ap (λ t. t * (p * q)) (raise-by h), linear (lit S ⊛ lit (pos p) ⊛ lit (pos q)))
 
 -- raised corners give the raised numerator
-numerator-raised : (s : Corners) (k : Cell) → CornersIn s
+numerator-raised : (s : Corners) (k : Distances) → CornersIn s
     → pos (raise (s .s1) * k .b * k .d + raise (s .s2) * k .a * k .d + raise (s .s3) * k .b * k .c + raise (s .s4) * k .a * k .c)
     ≡ numerator s k +ℤ pos (maxShift * ((k .a + k .b) * (k .c + k .d)))
 unfolding numerator
@@ -111,16 +106,16 @@ module _ {s : Shape} (z : Extent s) {S : List ℤ} (p : Sound s S) where
           ne = p .ranged .range _ l;
         }
 
-    whole : (k .a + k .b) * (k .c + k .d) ≡ s .dlon * s .dlat
+    whole : (k .distances .a + k .distances .b) * (k .distances .c + k .distances .d) ≡ s .dlon * s .dlat
     whole = rw (c .width, c .height)
 
-    component-is : componentIn (s .cols) S k ≡ nearest (s .dlon * s .dlat) (numerator (cornersAt S (southwest (s .cols) k) (northwest (s .cols) k)) k)
+    component-is : componentIn (s .cols) S k ≡ nearest (s .dlon * s .dlat) (numerator (cornersAt S (southwest (s .cols) k) (northwest (s .cols) k)) (k .distances))
     unfolding componentIn fourCorner
     component-is = rw whole
 
     pub component-range : Within maxShift (componentIn (s .cols) S k)
     unfolding componentIn
-    component-range = four-corner-within _ k corners-range (weighted z c)
+    component-range = four-corner-within _ (k .distances) corners-range (weighted z c)
 
   -- in any cell of a point the numerator is the surface's
   module _ {x y : ℕ} {k : Cell} (o : CellOf s x y k) where
@@ -137,10 +132,10 @@ module _ {s : Shape} (z : Extent s) {S : List ℤ} (p : Sound s S) where
     ne = omega arith
 
     numerator-is : pos (surface (s .dlon) (s .dlat) (s .cols - 2) (s .rows - 2) (raisedNodes (s .cols) S) x y)
-        ≡ numerator corners k +ℤ pos (maxShift * (s .dlon * s .dlat))
+        ≡ numerator corners (k .distances) +ℤ pos (maxShift * (s .dlon * s .dlat))
     numerator-is =
         let n = rw (se, nw, ne) at (surface-is (s .dlon) (s .dlat) (s .cols - 2) (s .rows - 2) (spacings z .0) (spacings z .1) (raisedNodes (s .cols) S) (o .along) (o .up)) in
-        ap pos n ∙ (rw (whole (cell-in z o)) at (numerator-raised corners k (corners-range (cell-in z o))))
+        ap pos n ∙ (rw (whole (cell-in z o)) at (numerator-raised corners (k .distances) (corners-range (cell-in z o))))
 
     component-nearest : Nearest (s .dlon * s .dlat) (surface (s .dlon) (s .dlat) (s .cols - 2) (s .rows - 2) (raisedNodes (s .cols) S) x y) (raise (componentIn (s .cols) S k))
     component-nearest =
@@ -161,7 +156,7 @@ module _ {s : Shape} (z : Extent s) {S : List ℤ} (p : Sound s S) where
     shift-range = component-range (cell-in z (cell-of-point z hx hy))
 
     -- demand 2: it is the exact fraction, rounded once
-    pub shift-rounded : let k = cellAt s x y in NearestAway (s .dlon * s .dlat) (numerator (cornersAt S (southwest (s .cols) k) (northwest (s .cols) k)) k) (component s S x y)
+    pub shift-rounded : let k = cellAt s x y in NearestAway (s .dlon * s .dlat) (numerator (cornersAt S (southwest (s .cols) k) (northwest (s .cols) k)) (k .distances)) (component s S x y)
     unfolding component
     shift-rounded = rw (component-is (cell-in z (cell-of-point z hx hy))) (nearest-away _ _ (mul-pos (spacings z .0) (spacings z .1)))
 
@@ -206,18 +201,22 @@ module _ {s : Shape} (z : Extent s) {S : List ℤ} (p : Sound s S) where
         (raised-among (i .sw) (b .0)) (rw (se o) (raised-among (i .se) (b .1))) (rw (nw o) (raised-among (i .nw) (b .2))) (rw (ne o) (raised-among (i .ne) (b .3))) in
         record { low = omega (arith, ints, m .low, raise-by l, raise-by w); high = omega (arith, ints, m .high, raise-by h, raise-by w) }
 
--- ---- both components of a grid that passes
+-- ---- for the code: the cell `k` that it has found for a point of the grid
 
-module _ {g : Grid} (ok : Good g) {x y : ℕ}
-    (hx : x ≤ (shape (g .header) .cols - 1) * shape (g .header) .dlon) (hy : y ≤ (shape (g .header) .rows - 1) * shape (g .header) .dlat) where
-  -- the routine refuses no point of it
-  pub shift-answered : shiftAt g x y ≡ answered (shiftOf (shape (g .header)) (g .nodes) x y)
-  unfolding component shiftAt
-  shift-answered =
-      let z = extent (ok .header) in
-      let c = cell-in z (cell-of-point z hx hy) in
-      let i = corners-range z (ok .of-lat) c in
-      let j = corners-range z (ok .of-lon) c in
-      sym (passed-first _ (sym (ok .laid-out)))
-      ∙ sym (on-grid (shape (g .header)) (g .nodes) x y hx hy)
-      ∙ sym (none-beyond (shape (g .header)) (g .nodes) (cellAt (shape (g .header)) x y) (node-not-beyond (g .nodes) _ (i .sw) (j .sw)) (node-not-beyond (g .nodes) _ (i .se) (j .se)) (node-not-beyond (g .nodes) _ (i .nw) (j .nw)) (node-not-beyond (g .nodes) _ (i .ne) (j .ne)))
+module _ {s : Shape} (z : Extent s) {x y : ℕ} (hx : x ≤ (s .cols - 1) * s .dlon) (hy : y ≤ (s .rows - 1) * s .dlat) {k : Cell} (e : k ≡ cellAt s x y) where
+  found-in : CellIn s k
+  found-in = rw e (cell-in z (cell-of-point z hx hy))
+
+  pub found-corners : northwest (s .cols) k + 1 < s .rows * s .cols
+  found-corners = corners-in z found-in
+
+  pub found-weights : Weighted (k .distances)
+  found-weights = weighted z found-in
+
+  module _ {S : List ℤ} (p : Sound s S) where
+    pub found-range : CornersIn (cornersAt S (southwest (s .cols) k) (northwest (s .cols) k))
+    found-range = corners-range z p found-in
+
+    pub found-shift : fourCorner (cornersAt S (southwest (s .cols) k) (northwest (s .cols) k)) (k .distances) ≡ component s S x y
+    unfolding component componentIn
+    found-shift = ap (λ (c : Cell). fourCorner (cornersAt S (southwest (s .cols) c) (northwest (s .cols) c)) (c .distances)) e

@@ -8,7 +8,7 @@ use Rattle.laws.specs.Parts.{Within}
 use Rattle.laws.specs.Bounds.{abs-add, abs-mul}
 use Rattle.shift.specs.Shift.{numerator, fourCorner}
 use Rattle.shift.specs.Needs.{Weighted, CornersIn}
-use Rattle.shift.specs.declared.Cell.{Cell}
+use Rattle.shift.specs.declared.Distances.{Distances}
 use Rattle.shift.specs.declared.Corners.{Corners}
 use Rattle.shift.proofs.Rounding.{nearest-within}
 use Rattle.grid.specs.Nodes.{maxShift}
@@ -16,7 +16,7 @@ use Rattle.grid.specs.Nodes.{maxShift}
 term-size : (S : ℤ) (p q : ℕ) → natAbs (S *ℤ pos p *ℤ pos q) ≡ natAbs S * p * q
 term-size S p q = abs-mul (S *ℤ pos p) (pos q) ∙ ap (λ t. t * q) (abs-mul S (pos p))
 
-module _ (s : Corners) (k : Cell) (i : CornersIn s) where
+module _ (s : Corners) (k : Distances) (i : CornersIn s) where
   sizes : natAbs (s .s1) * k .b * k .d + natAbs (s .s2) * k .a * k .d + natAbs (s .s3) * k .b * k .c + natAbs (s .s4) * k .a * k .c
       ≤ (k .a + k .b) * (k .c + k .d) * maxShift
   sizes =

@@ -1,21 +1,22 @@
--- What the private functions ask of their arguments.
+-- What the routine asks of a cell, its corners and distances.
 use Prim.Native.Nat.{suc, _+_, _≤_, _<_}
 use mathlib.Core.Path.{_≡_}
 use Rattle.laws.specs.Parts.{Within}
 use Rattle.grid.specs.declared.Shape.{Shape}
 use Rattle.shift.specs.declared.Cell.{Cell}
 use Rattle.shift.specs.declared.Corners.{Corners}
+use Rattle.shift.specs.declared.Distances.{Distances}
 use Rattle.grid.specs.Nodes.{maxShift}
 
 -- a cell of the grid, with distances that make up its sides
 pub record CellIn (s : Shape) (k : Cell) : Type 0 where
   pub row-in : suc (k .row) < s .rows
   pub col-in : suc (k .col) < s .cols
-  pub width : k .a + k .b ≡ s .dlon
-  pub height : k .c + k .d ≡ s .dlat
+  pub width : k .distances .a + k .distances .b ≡ s .dlon
+  pub height : k .distances .c + k .distances .d ≡ s .dlat
 
 -- distances that keep the numerator and the denominator small
-pub record Weighted (k : Cell) : Type 0 where
+pub record Weighted (k : Distances) : Type 0 where
   pub wide : 0 < k .a + k .b
   pub narrow : k .a + k .b ≤ 900_000
   pub high : 0 < k .c + k .d

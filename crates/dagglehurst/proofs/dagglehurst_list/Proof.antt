@@ -1,11 +1,9 @@
 use borrow.Author.Needs.{needs}
 use mathlib.Core.Path.{ap, _∙_}
 use Rattle.writing.specs.Writing.{roomAfter}
-use Rattle.grid.specs.Rules.{nodeCountOr0}
-use Rattle.requests.specs.Replies.{checkedAfresh}
 use Rattle.listing.specs.Listing.{listText}
 use Rattle.dagglehurst.specs.Reply.{reply}
-use Rattle.dagglehurst.specs.Header.{headerIn, gridIn}
+use Rattle.dagglehurst.specs.Header.{gridIn}
 use Rattle.dagglehurst.proofs.dagglehurst_list.Statement.{statement}
 use Rattle.dagglehurst.proofs.dagglehurst_list.Tie as tie
 
@@ -25,7 +23,7 @@ returns : tie.Need-returns
 returns c =
     let a = c .before .before .before .before .before .before .before .before .args in
     let e = rw (c .before .before .before .before .before .header-in .ensures) at (c .before .before .before .list .ensures) in
-    (c .written .ensures ∙ ap reply (e .0), e .1 ∙ ap (λ o. roomAfter o (listText (nodeCountOr0 (headerIn (a .header .now))) (checkedAfresh (gridIn (a .header .now) (a .lat .now) (a .lon .now))) (a .requests .now)) (a .room .now)) (e .0))
+    (c .written .ensures ∙ ap reply (e .0), e .1 ∙ ap (λ o. roomAfter o (listText (gridIn (a .header .now) (a .lat .now) (a .lon .now)) (a .requests .now)) (a .room .now)) (e .0))
 
 pub dagglehurst-list-spec : {M : Type 1} → statement M
 dagglehurst-list-spec =

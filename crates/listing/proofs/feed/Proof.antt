@@ -1,41 +1,47 @@
 use borrow.Author.Needs.{needs}
-use native.Mathlib.Omega.{arith}
-use Prim.Native.Nat.{_^_, _<_}
-use mathlib.Core.Path.{refl}
-use mathlib.Core.Logic.{⊎-elim}
-use lib.ListN.{length}
+use mathlib.Core.Path.{refl, sym, ap, _∙_}
 use Rattle.writing.specs.Writing.{roomAfter}
-use Rattle.writing.proofs.Laws.{wrote-short, wrote-fits, wrote-room}
+use Rattle.figures.proofs.Laws.{refused-first, passed-first}
+use Rattle.grid.specs.Check.{checkOutcome}
+use Rattle.listing.specs.Pieces.{feeding}
 use Rattle.listing.proofs.feed.Statement.{statement}
 use Rattle.listing.proofs.feed.Tie as tie
 
-lent : (c : tie.Start) → length (c .args .room .now) < 2 ^ 63
-lent c = omega arith
+check-requires : tie.Need-check-requires
+check-requires c κs = search needs
 
-lacking-requires : tie.Need-lacking-requires
-lacking-requires c κs = omega (arith, lent (c .before .before))
+enum-known-checked : tie.Need-enum-known-checked
+enum-known-checked c = search needs
+
+enum-told : tie.Need-enum-told
+enum-told c = search needs
+
+feed-checked-requires : tie.Need-feed-checked-requires
+feed-checked-requires c κs = sym (c .before .before .before .check .ensures) ∙ ap checkOutcome (c .before .enum-told .given .1)
 
 returns : tie.Need-returns
-unfolding roomAfter
-returns c =
-    let s = c .before .before .before .before in
-    let k = c .before .lacking .ensures .short (c .if1 .taken) in
-    (wrote-short _ _ (k .1) (k .0) .answer, (refl, refl))
-
-put-replies-requires : tie.Need-put-replies-requires
-put-replies-requires c κs = search needs
+unfolding feeding roomAfter
+returns c = (refused-first _ (ap checkOutcome (sym (c .before .checked .given .1)) ∙ c .before .before .before .check .ensures), (refl, refl))
 
 same-length : tie.Need-same-length
 same-length c = search needs
 
 returns-2 : tie.Need-returns-2
+unfolding feeding
 returns-2 c =
-    let p = c .before .before .before in
-    let l = p .before .before in
-    let r = p .put-replies .ensures in
-    let f = wrote-fits (r .put) (⊎-elim (λ h. h) (λ h. omega (arith, r .small)) (l .before .lacking .ensures .enough (l .if1 .left))) (lent (l .before .before .before .before)) in
-    (f .answer, (r .next, wrote-room f))
+    let w = c .before .before in
+    let k = w .before .before in
+    let e = w .feed-checked .ensures in
+    (e .0 ∙ passed-first _ (ap checkOutcome (sym (k .enum-told .given .1)) ∙ k .before .before .check .ensures), e .1)
 
 pub feed-spec : {M : Type 1} → statement M
 feed-spec =
-    tie.close (tie.spec lacking-requires returns put-replies-requires same-length returns-2)
+    tie.close
+    (tie.spec
+    check-requires
+    enum-known-checked
+    enum-told
+    feed-checked-requires
+    returns
+    same-length
+    returns-2)

@@ -1,11 +1,10 @@
 use borrow.Author.Needs.{needs}
 use mathlib.Core.Path.{refl, sym, ap, _∙_}
-use Rattle.grid.specs.Grid.{gridOf}
+use Rattle.figures.proofs.Laws.{refused-first, passed-first}
 use Rattle.grid.specs.Check.{checkOutcome}
 use Rattle.writing.specs.Writing.{roomAfter}
 use Rattle.writing.proofs.Laws.{wrote-room}
 use Rattle.listing.specs.Listing.{listing}
-use Rattle.listing.proofs.Whole.{once-afresh}
 use Rattle.listing.proofs.list.Statement.{statement}
 use Rattle.listing.proofs.list.Tie as tie
 
@@ -19,11 +18,11 @@ enum-told : tie.Need-enum-told
 enum-told c = search needs
 
 list-checked-requires : tie.Need-list-checked-requires
-list-checked-requires c κs = search needs
+list-checked-requires c κs = sym (c .before .before .before .check .ensures) ∙ ap checkOutcome (c .before .enum-told .given .1)
 
 returns : tie.Need-returns
 unfolding listing roomAfter
-returns c = (rw (← (ap checkOutcome (sym (c .before .why .given .1)) ∙ c .before .before .before .check .ensures)), refl)
+returns c = (refused-first _ (ap checkOutcome (sym (c .before .why .given .1)) ∙ c .before .before .before .check .ensures), refl)
 
 same-length : tie.Need-same-length
 same-length c = search needs
@@ -33,10 +32,8 @@ unfolding listing
 returns-2 c =
     let w = c .before .before in
     let k = w .before .before in
-    let a = k .before .before .before .before .before .args in
-    let p = sym (k .before .before .check .ensures) ∙ ap checkOutcome (k .enum-told .given .1) in
-    let e = rw (once-afresh (gridOf (a .h) (a .lat .now) (a .lon .now)) p) at (w .list-checked .ensures) in
-    (rw p (e .answer), wrote-room e)
+    let e = w .list-checked .ensures in
+    (e .answer ∙ passed-first _ (ap checkOutcome (sym (k .enum-told .given .1)) ∙ k .before .before .check .ensures), wrote-room e)
 
 pub list-spec : {M : Type 1} → statement M
 list-spec =

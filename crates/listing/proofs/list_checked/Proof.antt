@@ -30,7 +30,7 @@ returns c =
     counted-short _ _ (lent (p .before .before .before .before)) (p .put-list .ensures) (c .if1 .taken)
 
 put-list-requires-2 : tie.Need-put-list-requires-2
-put-list-requires-2 c κs = search needs
+put-list-requires-2 c κs = c .before .before .before .before .before .before .before .before .pre
 
 same-length-2 : tie.Need-same-length-2
 same-length-2 c = search needs

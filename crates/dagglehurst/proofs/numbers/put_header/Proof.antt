@@ -1,11 +1,12 @@
 use borrow.Author.Needs.{needs}
+use native.Mathlib.Omega.{arith}
 use mir.Syntax.{w64}
 use mir.Val.{SFits}
 use mathlib.Core.Path.{refl, ap, _∙_}
 use lib.ListN.{length}
 use Rattle.laws.specs.Over.{length-over}
 use Rattle.dagglehurst.specs.Header.{numbers}
-use Rattle.dagglehurst.proofs.Laws.{then-set, front-header}
+use Rattle.dagglehurst.proofs.Laws.{front-none, front-more}
 use Rattle.dagglehurst.proofs.numbers.put_header.Statement.{statement}
 use Rattle.dagglehurst.proofs.numbers.put_header.Tie as tie
 
@@ -37,13 +38,13 @@ returns c =
     let f4 : SFits w64 (h .dlon) = search needs in
     let f5 : SFits w64 (h .rows) = search needs in
     let f6 : SFits w64 (h .cols) = search needs in
-    let e1 = then-set 0 f1 (c .before .before .before .before .before .before .before .before .before .before .before .before .before .before .before .before .before .before .before .before .before .put .ensures) (refl {a = s .args .s .now}) in
-    let e2 = then-set 1 f2 (c .before .before .before .before .before .before .before .before .before .before .before .before .before .before .before .before .before .put2 .ensures) e1 in
-    let e3 = then-set 2 f3 (c .before .before .before .before .before .before .before .before .before .before .before .before .before .put3 .ensures) e2 in
-    let e4 = then-set 3 f4 (c .before .before .before .before .before .before .before .before .before .put4 .ensures) e3 in
-    let e5 = then-set 4 f5 (c .before .before .before .before .before .put5 .ensures) e4 in
-    let e6 = then-set 5 f6 (c .before .put6 .ensures) e5 in
-    e6 ∙ front-header h (s .args .s .now) (s .pre)
+    let e1 = front-more 0 f1 (c .before .before .before .before .before .before .before .before .before .before .before .before .before .before .before .before .before .before .before .before .before .put .ensures) (front-none (s .args .s .now)) refl (omega (arith, s .pre)) in
+    let e2 = front-more 1 f2 (c .before .before .before .before .before .before .before .before .before .before .before .before .before .before .before .before .before .put2 .ensures) e1 refl (omega (arith, s .pre)) in
+    let e3 = front-more 2 f3 (c .before .before .before .before .before .before .before .before .before .before .before .before .before .put3 .ensures) e2 refl (omega (arith, s .pre)) in
+    let e4 = front-more 3 f4 (c .before .before .before .before .before .before .before .before .before .put4 .ensures) e3 refl (omega (arith, s .pre)) in
+    let e5 = front-more 4 f5 (c .before .before .before .before .before .put5 .ensures) e4 refl (omega (arith, s .pre)) in
+    let e6 = front-more 5 f6 (c .before .put6 .ensures) e5 refl (omega (arith, s .pre)) in
+    e6 .is
 
 same-length : tie.Need-same-length
 same-length c =

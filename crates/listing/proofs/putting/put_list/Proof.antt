@@ -4,8 +4,6 @@ use native.Mathlib.Omega.{arith}
 use lib.ListN.{length}
 use Rattle.writing.proofs.Laws.{wrote-put, put-rest}
 use Rattle.grid.specs.Grid.{gridOf}
-use Rattle.grid.specs.Rules.{nodeCountOr0}
-use Rattle.requests.specs.Replies.{checkedOnce}
 use Rattle.listing.proofs.Whole.{sheet-wrote, list-text}
 use Rattle.listing.proofs.putting.put_list.Statement.{statement}
 use Rattle.listing.proofs.putting.put_list.Tie as tie
@@ -44,7 +42,7 @@ part-put-replies-end : tie.Need-part-put-replies-end
 part-put-replies-end c = search needs
 
 put-replies-requires : tie.Need-put-replies-requires
-put-replies-requires c κs = search needs
+put-replies-requires c κs = c .before .before .before .before .before .before .before .before .before .before .before .pre
 
 saturating-add-requires : tie.Need-saturating-add-requires
 saturating-add-requires c κs = search needs
@@ -83,10 +81,11 @@ returns c =
     let m = w .before .before in
     let s = m .before .before .before in
     let a = s .args in
+    let g = gridOf (a .h) (a .lat .now) (a .lon .now) in
     let f = rw (n .new .ensures) at (p .put-replies .ensures) in
     let z = rw (f .next) at (e .put-end .ensures) in
-    rw (list-text (nodeCountOr0 (a .h)) (checkedOnce (gridOf (a .h) (a .lat .now) (a .lon .now))) (a .text .now) (short s))
-    (put-rest (put-rest (wrote-put (sheet-wrote (m .node-count .ensures) (w .write .ensures .0)) (y .bytes .ensures) (lent s)) (l .least .ensures) (lent s) (f .put) (d .saturating-add .ensures))
+    rw (list-text g (a .text .now) (short s))
+    (put-rest (put-rest (wrote-put (sheet-wrote g (m .node-count .ensures) (w .write .ensures .0)) (y .bytes .ensures) (lent s)) (l .least .ensures) (lent s) (f .put) (d .saturating-add .ensures))
     (k .least2 .ensures) (lent s) z (c .saturating-add2 .ensures))
 
 pub put-list-spec : {M : Type 1} → statement M

@@ -1,0 +1,109 @@
+use borrow.Author.Needs.{needs}
+use native.Mathlib.Omega.{arith}
+use native.Mathlib.Numerals.{add-one}
+use Prim.Native.Nat.{_*_, _-_, _≤_}
+use mathlib.Core.Path.{_≡_, refl, ap, _∙_}
+use lib.ListN.{length, getD, set}
+use Rattle.laws.specs.Tests.{element}
+use Rattle.grid.specs.Grid.{gridOf}
+use Rattle.convert.specs.Batch.{converted, requestOutcome, stored, refusalNumber, answersTo, refusalsTo}
+use Rattle.convert.proofs.BatchLaws.{length-answersTo, length-refusalsTo}
+use Rattle.convert.proofs.batch.fill.Statement.{statement}
+use Rattle.convert.proofs.batch.fill.Tie as tie
+
+abbrev Inv-loop : tie.InvT-loop
+Inv-loop h lat lon ways points answers₀ refusals₀ k₀ answers refusals k =
+    (k ≤ length ways)
+    × (2 * length ways ≤ length points)
+    × (answers ≡ answersTo (requestOutcome (gridOf h lat lon) ways points) k answers₀)
+    × (refusals ≡ refusalsTo (requestOutcome (gridOf h lat lon) ways points) k refusals₀)
+
+abbrev μ-loop : tie.MeasureT-loop
+μ-loop h lat lon ways points answers₀ refusals₀ k₀ answers refusals k = length ways - k
+
+loop-holds : tie.Need-loop-holds Inv-loop μ-loop
+unfolding answersTo refusalsTo
+loop-holds c = (omega arith, c .before .before .pre .1, refl, refl)
+
+shared-slice-read-way : tie.Need-shared-slice-read-way Inv-loop μ-loop
+shared-slice-read-way c = search needs
+
+mul-number-at : tie.Need-mul-number-at Inv-loop μ-loop
+mul-number-at c = search needs
+
+number-at-requires : tie.Need-number-at-requires Inv-loop μ-loop
+number-at-requires c κs = search needs
+
+mul-number-at-2 : tie.Need-mul-number-at-2 Inv-loop μ-loop
+mul-number-at-2 c = search needs
+
+add-number-at : tie.Need-add-number-at Inv-loop μ-loop
+add-number-at c = search needs
+
+number-at-requires-2 : tie.Need-number-at-requires-2 Inv-loop μ-loop
+number-at-requires-2 c κs = search needs
+
+convert-one-requires : tie.Need-convert-one-requires Inv-loop μ-loop
+convert-one-requires c κs = search needs
+
+store-requires : tie.Need-store-requires Inv-loop μ-loop
+store-requires c κs = search needs
+
+put-byte-requires : tie.Need-put-byte-requires Inv-loop μ-loop
+put-byte-requires c κs = search needs
+
+add-k : tie.Need-add-k Inv-loop μ-loop
+add-k c = search needs
+
+loop-less : tie.Need-loop-less Inv-loop μ-loop
+loop-less c = omega arith
+
+loop-again : tie.Need-loop-again Inv-loop μ-loop
+unfolding answersTo refusalsTo
+loop-again c =
+    let a = c .before .before .before .before .before .before .before .before .before .before .before .before .before .before .before .args in
+    let l = c .before .before .before .before .before .before .before .before .before .before .before .before .loop in
+    let y = element (c .before .before .before .before .before .before .before .before .before .number-at .ok) ∙ c .before .before .before .before .before .before .before .before .before .number-at .ensures in
+    let x = element (c .before .before .before .before .before .before .before .before .number-at2 .ok) ∙ c .before .before .before .before .before .before .before .before .number-at2 .ensures in
+    let o = c .before .before .before .before .before .before .before .convert-one .ensures ∙ (λ i. converted (gridOf (a .h) (a .lat .now) (a .lon .now)) (getD (a .ways .now) (l .k) 0) (y i) (x i)) in
+    let t = c .before .before .before .before .before .store .ensures in (
+      omega arith,
+      l .inv .1,
+      rw (add-one (l .k)) (t .1 ∙ (λ i. stored (l .k) (o i) (l .inv .2 i))),
+      rw (add-one (l .k)) (c .before .before .put-byte .ensures ∙ (λ i. set (l .inv .3 i) (l .k) ((t .0 ∙ ap refusalNumber o) i))),
+    )
+
+same-length : tie.Need-same-length Inv-loop μ-loop
+same-length c = let a = c .before .before .before .before .args in ap length (c .before .loop .inv .2) ∙ length-answersTo _ (c .before .loop .k) (a .answers .now)
+
+same-length-2 : tie.Need-same-length-2 Inv-loop μ-loop
+same-length-2 c = let a = c .before .before .before .before .args in ap length (c .before .loop .inv .3) ∙ length-refusalsTo _ (c .before .loop .k) (a .refusals .now)
+
+returns : tie.Need-returns Inv-loop μ-loop
+returns c =
+    let a = c .before .before .before .before .args in
+    let e : c .before .loop .k ≡ length (a .ways .now) = omega arith in
+    (c .before .loop .inv .2 ∙ rw e, c .before .loop .inv .3 ∙ rw e)
+
+pub fill-spec : {M : Type 1} → statement M
+fill-spec =
+    tie.close
+    (tie.spec
+    Inv-loop
+    μ-loop
+    loop-holds
+    shared-slice-read-way
+    mul-number-at
+    number-at-requires
+    mul-number-at-2
+    add-number-at
+    number-at-requires-2
+    convert-one-requires
+    store-requires
+    put-byte-requires
+    add-k
+    loop-less
+    loop-again
+    same-length
+    same-length-2
+    returns)

@@ -1,0 +1,80 @@
+use native.Mathlib.Omega.{arith}
+use Prim.Native.Nat.{_+_, _*_, _<_}
+use mathlib.Core.Path.{ap, _∙_}
+use Rattle.laws.specs.Tests.{element}
+use Rattle.grid.specs.Grid.{gridOf}
+use Rattle.grid.specs.declared.Shape.{Shape}
+use Rattle.shift.specs.Shift.{northwest, fourCorner, component}
+use Rattle.shift.specs.declared.Corners.{Corners}
+use Rattle.shift.proofs.OnGrid.{found-corners, found-weights, found-range, found-shift}
+use Rattle.convert.proofs.CellLaws.{AtPoint, at-point}
+use borrow.Author.Needs.{needs}
+use Rattle.convert.proofs.cells.shift_at.Statement.{statement}
+use Rattle.convert.proofs.cells.shift_at.Tie as tie
+
+there : (c : tie.After-shape) → let a = c .before .args in AtPoint (gridOf (a .h) (a .lat .now) (a .lon .now)) (c .shape .result) (a .x) (a .y)
+there c = at-point _ (c .before .pre .0) (c .shape .ensures) (c .before .pre .1 .0) (c .before .pre .1 .1)
+
+-- the corners are nodes
+corners : (c : tie.After-cell-at) → northwest (c .before .shape .result .cols) (c .cell-at .result) + 1 < c .before .shape .result .rows * c .before .shape .result .cols
+corners c = let t = there (c .before) in found-corners (t .sizes) (t .in-x) (t .in-y) (c .cell-at .ensures)
+
+few : (c : tie.After-cell-at) → northwest (c .before .shape .result .cols) (c .cell-at .result) + 1 < 2048
+few c = omega (arith, corners c, there (c .before) .sizes .nodes)
+
+shape-requires : tie.Need-shape-requires
+shape-requires c κs = search needs
+
+cell-at-requires : tie.Need-cell-at-requires
+cell-at-requires c κs = (there c .sizes, there c .in-x, there c .in-y)
+
+mul-sw : tie.Need-mul-sw
+mul-sw c = omega (arith, few (c .before .before))
+
+add-sw : tie.Need-add-sw
+add-sw c = omega (arith, few (c .before .before .before))
+
+add-nw : tie.Need-add-nw
+add-nw c = omega (arith, few (c .before .before .before .before))
+
+corners-at-requires : tie.Need-corners-at-requires
+corners-at-requires c κs = let k = c .before .before .before .before .before in (omega (arith, corners k, there (k .before) .room-lat), omega (arith, corners k, there (k .before) .room-lat))
+
+four-corner-requires : tie.Need-four-corner-requires
+four-corner-requires c κs =
+    let k = c .before .before .before .before .before .before in
+    let t = there (k .before) in
+    (rw (c .corners-at .ensures) (found-range (t .sizes) (t .in-x) (t .in-y) (k .cell-at .ensures) (t .sound-lat)), found-weights (t .sizes) (t .in-x) (t .in-y) (k .cell-at .ensures))
+
+corners-at-requires-2 : tie.Need-corners-at-requires-2
+corners-at-requires-2 c κs = let k = c .before .before .before .before .before .before .before in (omega (arith, corners k, there (k .before) .room-lon), omega (arith, corners k, there (k .before) .room-lon))
+
+four-corner-requires-2 : tie.Need-four-corner-requires-2
+four-corner-requires-2 c κs =
+    let k = c .before .before .before .before .before .before .before .before in
+    let t = there (k .before) in
+    (rw (c .corners-at2 .ensures) (found-range (t .sizes) (t .in-x) (t .in-y) (k .cell-at .ensures) (t .sound-lon)), found-weights (t .sizes) (t .in-x) (t .in-y) (k .cell-at .ensures))
+
+returns : tie.Need-returns
+returns c =
+    let k = c .before .before .before .before .before .before .before .before .before in
+    let a = k .before .before .args in
+    let t = there (k .before) in
+    let p = element (c .before .before .four-corner .ok) ∙ c .before .before .four-corner .ensures ∙ ap (λ (s : Corners). fourCorner s (k .cell-at .result .distances)) (c .before .before .before .corners-at .ensures) ∙ found-shift (t .sizes) (t .in-x) (t .in-y) (k .cell-at .ensures) (t .sound-lat) ∙ ap (λ (s : Shape). component s (a .lat .now) (a .x) (a .y)) (k .before .shape .ensures) in
+    let q = element (c .four-corner2 .ok) ∙ c .four-corner2 .ensures ∙ ap (λ (s : Corners). fourCorner s (k .cell-at .result .distances)) (c .before .corners-at2 .ensures) ∙ found-shift (t .sizes) (t .in-x) (t .in-y) (k .cell-at .ensures) (t .sound-lon) ∙ ap (λ (s : Shape). component s (a .lon .now) (a .x) (a .y)) (k .before .shape .ensures) in
+    λ i. record { lat = p i; lon = q i }
+
+pub shift-at-spec : {M : Type 1} → statement M
+shift-at-spec =
+    tie.close
+    (tie.spec
+    shape-requires
+    cell-at-requires
+    mul-sw
+    add-sw
+    add-nw
+    corners-at-requires
+    four-corner-requires
+    corners-at-requires-2
+    four-corner-requires-2
+    returns)

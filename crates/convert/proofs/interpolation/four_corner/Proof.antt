@@ -1,0 +1,47 @@
+use native.Mathlib.Omega.{arith}
+use native.Mathlib.Nat.{mul-pos, mul-le-mul}
+use Prim.Native.Nat.{_+_, _*_, _≤_}
+use mathlib.Core.Path.{ap, _∙_}
+use Rattle.laws.specs.Expr.{reads, reads-within, bounded}
+use Rattle.laws.specs.Tests.{element}
+use Rattle.shift.specs.Round.{nearest}
+use Rattle.shift.specs.Shift.{fourCorner}
+use borrow.Author.Needs.{needs}
+use Rattle.convert.proofs.interpolation.four_corner.Statement.{statement}
+use Rattle.convert.proofs.interpolation.four_corner.Tie as tie
+
+whole : (s : tie.Start) → let k = s .args .at in (k .a + k .b) * (k .c + k .d) ≤ 810_000_000_000
+whole s = mul-le-mul (s .pre .1 .narrow) (s .pre .1 .low)
+
+add-denominator : tie.Need-add-denominator
+add-denominator c = search needs
+
+add-denominator-2 : tie.Need-add-denominator-2
+add-denominator-2 c = search needs
+
+mul-denominator : tie.Need-mul-denominator
+mul-denominator c = omega (arith, whole (c .before .before))
+
+numerator-requires : tie.Need-numerator-requires
+numerator-requires c κs = search needs
+
+rounded-requires : tie.Need-rounded-requires
+rounded-requires c κs = let s = c .before .before .before in (reads-within (bounded (c .numerator .ensures .1)) tt, mul-pos (s .pre .1 .wide) (s .pre .1 .high), whole s)
+
+returns : tie.Need-returns
+unfolding fourCorner
+returns c =
+    let n = c .before in
+    let k = c .before .before .before .before .args .at in
+    element (c .rounded .ok) ∙ c .rounded .ensures ∙ ap (nearest ((k .a + k .b) * (k .c + k .d))) (reads (bounded (n .numerator .ensures .1)) tt ∙ n .numerator .ensures .0)
+
+pub four-corner-spec : {M : Type 1} → statement M
+four-corner-spec =
+    tie.close
+    (tie.spec
+    add-denominator
+    add-denominator-2
+    mul-denominator
+    numerator-requires
+    rounded-requires
+    returns)

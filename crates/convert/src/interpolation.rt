@@ -1,0 +1,47 @@
+// One component's shift in a cell: equation 2 of the bulletin, worked exactly and rounded once. Corners and distances go in, and the
+// shift comes out; the grid has been checked.
+use shift::Corners;
+use shift::Distances;
+ghost use mathlib.Core.Path.{_≡_};
+ghost use Prim.Native.Nat.{_+_, _*_, _≤_, _<_};
+ghost use Rattle.laws.specs.Parts.{Within};
+ghost use Rattle.shift.specs.Round.{nearest};
+ghost use Rattle.shift.specs.Shift.{numerator, fourCorner};
+ghost use Rattle.shift.specs.Needs.{Weighted, CornersIn};
+
+pub(crate) fn four_corner(s: Corners, at: Distances) -> i64
+    requires { ⌜ (CornersIn s) × (Weighted at) ⌝ }
+    ensures { λ r. ⌜ r ≡ fourCorner s at ⌝ }
+{
+    let denominator = (at.a + at.b) * (at.c + at.d);
+    rounded(numerator(s, at), denominator)
+}
+
+// S1·B·D + S2·A·D + S3·B·C + S4·A·C
+fn numerator(s: Corners, at: Distances) -> i64
+    requires { ⌜ (CornersIn s) × (Weighted at) ⌝ }
+    ensures { λ r. ⌜ (r ≡ numerator s at) × (Within 4860000000000000000 r) ⌝ }
+{
+    let a = at.a as i64;
+    let b = at.b as i64;
+    let c = at.c as i64;
+    let d = at.d as i64;
+    s.s1 * b * d + s.s2 * a * d + s.s3 * b * c + s.s4 * a * c
+}
+
+// The nearest whole number to `n / d`, a tie away from zero: by quotient and remainder, since 2n may not fit.
+fn rounded(n: i64, d: usize) -> i64
+    requires { ⌜ (Within 4860000000000000000 n) × (0 < d) × (d ≤ 810000000000) ⌝ }
+    ensures { λ r. ⌜ r ≡ nearest d n ⌝ }
+{
+    let d = d as i64;
+    let q = n / d;
+    let r = n % d;
+    if d <= 2 * r {
+        return q + 1;
+    }
+    if 2 * r <= -d {
+        return q - 1;
+    }
+    q
+}
