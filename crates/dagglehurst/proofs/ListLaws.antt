@@ -17,8 +17,9 @@ use Rattle.writing.specs.declared.Written.{Written}
 use Rattle.writing.proofs.Laws.{wrote-put, exact-count}
 use Rattle.grid.specs.Grid.{Grid}
 use Rattle.grid.specs.Check.{verdict}
-use Rattle.listing.specs.Pieces.{listingOf, fresh, heldLine, fedText, fedList, feeding, listAfter, endText}
-use Rattle.listing.specs.declared.Listing.{Listing}
+use Rattle.list_state.specs.State.{listingOf, fresh, heldLine}
+use Rattle.listing.specs.Pieces.{fedText, fedList, feeding, listAfter, endText}
+use Rattle.list_state.specs.declared.Listing.{Listing}
 use Rattle.listing.proofs.Cuts.{held-fed}
 use Rattle.dagglehurst.specs.Reply.{reply}
 use Rattle.dagglehurst.specs.Pieces.{lineLength, listIn, stateOf, lent, feedingIn, finishingIn, stateAfter}

@@ -11,8 +11,9 @@ use Rattle.figures.specs.Outcome.{Outcome, answered, refused, refuseIf, andThen
 use Rattle.writing.specs.Writing.{inRoom}
 use Rattle.grid.specs.Grid.{Grid}
 use Rattle.grid.specs.Check.{verdict}
-use Rattle.listing.specs.Pieces.{listingOf, heldLine, fedText, endText}
-use Rattle.listing.specs.declared.Listing.{Listing}
+use Rattle.list_state.specs.State.{listingOf, heldLine}
+use Rattle.listing.specs.Pieces.{fedText, endText}
+use Rattle.list_state.specs.declared.Listing.{Listing}
 use Rattle.dagglehurst.specs.Header.{number}
 
 -- a length below 0 counts as 0, and one above 65 as 65

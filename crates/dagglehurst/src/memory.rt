@@ -1,13 +1,13 @@
 // A list in lent memory: the bytes of its line under way, and its numbers, how many bytes these are, the lines answered, the lines refused.
-use listing::Listing;
-use listing::Totals;
+use list_state::Listing;
+use list_state::Totals;
 use slices::number_at;
 use slices::put;
 ghost use mathlib.Core.Path.{_≡_};
 ghost use Prim.Native.Nat.{_≤_};
 ghost use lib.ListN.{length};
 ghost use Rattle.laws.specs.Over.{over};
-ghost use Rattle.listing.specs.Pieces.{heldLine};
+ghost use Rattle.list_state.specs.State.{heldLine};
 ghost use Rattle.dagglehurst.specs.Pieces.{lineLength, listIn, stateOf};
 
 // The bytes that a line under way has at the most, and the numbers of a list.

@@ -1,7 +1,7 @@
 // The sitting: request lines from a descriptor, and a reply to each as soon as it has ended.
 use super::output::put;
 use grid::Header;
-use listing::Listing;
+use list_state::Listing;
 use requests::Reply;
 
 // What follows a turn.

@@ -26,11 +26,12 @@ use Rattle.convert.proofs.Demands.{converts}
 use Rattle.requests.specs.Replies.{said83, said27, replyTo}
 use Rattle.requests.specs.declared.Reply.{Reply}
 use Rattle.listing.specs.Lines.{replies}
-use Rattle.listing.specs.Pieces.{listingOf, fedReplies, fedText, fedList}
+use Rattle.list_state.specs.State.{listingOf}
+use Rattle.listing.specs.Pieces.{fedReplies, fedText, fedList}
 use Rattle.listing.specs.Batch.{requestBy, requestAt, replyBy, replyAt, upTo, BatchRead, RepliesPut}
 use Rattle.listing.specs.Needs.{FedFront}
-use Rattle.listing.specs.declared.Listing.{Listing}
-use Rattle.listing.specs.declared.Totals.{Totals}
+use Rattle.list_state.specs.declared.Listing.{Listing}
+use Rattle.list_state.specs.declared.Totals.{Totals}
 use Rattle.listing.specs.declared.reading.Batch.{Batch}
 use Rattle.listing.specs.declared.replying.Replied.{Replied}
 

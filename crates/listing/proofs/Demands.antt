@@ -14,10 +14,12 @@ use Rattle.requests.specs.Replies.{isAnswer, replyTo}
 use Rattle.requests.specs.declared.Reply.{Reply}
 use Rattle.listing.specs.Lines.{requestsIn, replies, rest, texts, answers, refusals}
 use Rattle.listing.specs.Listing.{listText}
-use Rattle.listing.specs.Pieces.{fresh, fedReplies, fedText, fedList}
+use Rattle.list_state.specs.State.{fresh}
+use Rattle.listing.specs.Pieces.{fedReplies, fedText, fedList}
 use Rattle.listing.specs.Joined.{joined, fedTexts, fedLists, inPieces}
-use Rattle.listing.specs.declared.Listing.{Listing}
-use Rattle.listing.proofs.Cuts.{cut-text, cut-list, too-long}
+use Rattle.list_state.specs.declared.Listing.{Listing}
+use Rattle.list_state.proofs.Holding.{too-long}
+use Rattle.listing.proofs.Cuts.{cut-text, cut-list}
 use Rattle.listing.proofs.Whole.{list-text}
 
 -- ---- pieces

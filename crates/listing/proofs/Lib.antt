@@ -1,6 +1,5 @@
 pub mod Cuts
 pub mod Steps
-pub mod Holding
 pub mod RequestLaws
 pub mod ReplyLaws
 pub mod Batches

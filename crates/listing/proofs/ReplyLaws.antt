@@ -13,9 +13,10 @@ use Rattle.writing.proofs.Laws.{put-nothing, put-rest}
 use Rattle.requests.specs.Replies.{isAnswer, replyText, maxText}
 use Rattle.requests.specs.declared.Reply.{Reply}
 use Rattle.listing.specs.Lines.{texts, answers, refusals}
-use Rattle.listing.specs.Pieces.{oneMore, raised, counted, countedAll}
+use Rattle.list_state.specs.State.{oneMore, counted}
+use Rattle.listing.specs.Pieces.{raised, countedAll}
 use Rattle.listing.specs.Batch.{upTo, RepliesPut}
-use Rattle.listing.specs.declared.Totals.{Totals}
+use Rattle.list_state.specs.declared.Totals.{Totals}
 use Rattle.listing.proofs.Cuts.{texts-append, counted-append}
 
 one-text : (r : Reply) → texts (r ∷ []) ≡ replyText r

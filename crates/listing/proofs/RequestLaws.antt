@@ -17,10 +17,11 @@ use Rattle.requests.specs.Requests.{requestIn}
 use Rattle.requests.proofs.Forms.{Formed, request-formed}
 use Rattle.requests.specs.declared.Request.{Request}
 use Rattle.listing.specs.Lines.{requestsIn, rest}
-use Rattle.listing.specs.Pieces.{fresh, heldLine}
+use Rattle.list_state.specs.State.{fresh, heldLine}
 use Rattle.listing.specs.Batch.{maxBatch, wayOf, pairPut, pointPut, requestBy, requestAt, upTo, BatchRead}
-use Rattle.listing.specs.declared.Listing.{Listing}
-use Rattle.listing.proofs.Cuts.{requests-cut, rest-cut, held-of}
+use Rattle.list_state.specs.declared.Listing.{Listing}
+use Rattle.list_state.proofs.Holding.{held-of}
+use Rattle.listing.proofs.Cuts.{requests-cut, rest-cut}
 use Rattle.listing.proofs.Steps.{to-newline}
 
 pub upTo-same : {A : Type 0} (f g : ℕ → A) (n : ℕ) → ((k : ℕ) → k < n → f k ≡ g k) → upTo f n ≡ upTo g n

@@ -11,9 +11,10 @@ use Rattle.grid.specs.Grid.{Grid}
 use Rattle.requests.specs.Replies.{maxText}
 use Rattle.writing.proofs.Laws.{rest-lent, put-nothing, put-rest}
 use Rattle.listing.specs.Lines.{requestsIn, replies, rest, texts, answers, refusals}
-use Rattle.listing.specs.Pieces.{listingOf, heldLine, fedReplies, fedText, fedList}
+use Rattle.list_state.specs.State.{listingOf, heldLine}
+use Rattle.listing.specs.Pieces.{fedReplies, fedText, fedList}
 use Rattle.listing.specs.Needs.{FedFront, FedWhole}
-use Rattle.listing.specs.declared.Listing.{Listing}
+use Rattle.list_state.specs.declared.Listing.{Listing}
 use Rattle.listing.specs.declared.putting.Advance.{Advance}
 use Rattle.listing.proofs.Cuts.{cut-text, cut-list}
 

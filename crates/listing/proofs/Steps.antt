@@ -16,9 +16,10 @@ use Rattle.grid.specs.Grid.{Grid}
 use Rattle.requests.specs.Requests.{requestIn}
 use Rattle.requests.specs.Replies.{replyTo}
 use Rattle.listing.specs.Lines.{requestsIn, replies, rest, texts, answers, refusals}
-use Rattle.listing.specs.Pieces.{listingOf, heldLine, fedReplies, fedText, fedList}
+use Rattle.list_state.specs.State.{listingOf, heldLine}
+use Rattle.listing.specs.Pieces.{fedReplies, fedText, fedList}
 use Rattle.listing.specs.Needs.{FedFront}
-use Rattle.listing.specs.declared.Listing.{Listing}
+use Rattle.list_state.specs.declared.Listing.{Listing}
 
 -- ---- a text
 

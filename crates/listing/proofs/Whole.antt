@@ -24,8 +24,10 @@ use Rattle.requests.specs.Replies.{isAnswer, replyTo, replyText}
 use Rattle.requests.specs.declared.Reply.{Reply}
 use Rattle.listing.specs.Lines.{requestsIn, replies, rest, unended, allReplies, texts, answers, refusals}
 use Rattle.listing.specs.Listing.{sheetText, listText}
-use Rattle.listing.specs.Pieces.{oneMore, raised, listingOf, fresh, fedReplies, fedText, fedList, endText}
-use Rattle.listing.proofs.Cuts.{held-of, texts-append, answers-append, refusals-append}
+use Rattle.list_state.specs.State.{oneMore, listingOf, fresh}
+use Rattle.listing.specs.Pieces.{raised, fedReplies, fedText, fedList, endText}
+use Rattle.list_state.proofs.Holding.{held-of}
+use Rattle.listing.proofs.Cuts.{texts-append, answers-append, refusals-append}
 
 -- ---- the first line, whose number is as the machine has it
 

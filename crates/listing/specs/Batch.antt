@@ -18,9 +18,10 @@ use Rattle.requests.specs.Replies.{maxText}
 use Rattle.requests.specs.declared.Request.{Request}
 use Rattle.requests.specs.declared.Reply.{Reply}
 use Rattle.listing.specs.Lines.{requestsIn, rest, texts}
-use Rattle.listing.specs.Pieces.{heldLine, countedAll}
-use Rattle.listing.specs.declared.Listing.{Listing}
-use Rattle.listing.specs.declared.Totals.{Totals}
+use Rattle.list_state.specs.State.{heldLine}
+use Rattle.listing.specs.Pieces.{countedAll}
+use Rattle.list_state.specs.declared.Listing.{Listing}
+use Rattle.list_state.specs.declared.Totals.{Totals}
 use Rattle.listing.specs.declared.reading.Batch.{Batch}
 use Rattle.listing.specs.declared.replying.Replied.{Replied}
 

@@ -8,7 +8,7 @@ use Rattle.writing.specs.Writing.{saturated, Put}
 use Rattle.grid.specs.Grid.{Grid}
 use Rattle.requests.specs.Replies.{maxText}
 use Rattle.listing.specs.Pieces.{fedText, fedList}
-use Rattle.listing.specs.declared.Listing.{Listing}
+use Rattle.list_state.specs.declared.Listing.{Listing}
 use Rattle.listing.specs.declared.putting.Advance.{Advance}
 
 -- the bytes that a text needs, if the room is shorter, else 0; no reply is longer than `maxText`, and each has a byte of the piece

@@ -1,5 +1,4 @@
 // The list: one reply for each request line, for a whole text or as its bytes come.
-mod held;
 mod putting;
 mod reading;
 mod replying;
@@ -7,76 +6,20 @@ mod replying;
 use figures::Refusal;
 use grid::Checked;
 use grid::Header;
+use list_state::Listing;
 use requests::Reply;
-use slices::least;
 use writing::Written;
-use writing::write_text;
 ghost use mathlib.Core.Path.{_≡_};
-ghost use mathlib.Core.List.{[]};
-ghost use lib.ListN.{take};
 ghost use Rattle.writing.specs.Writing.{inRoom, roomAfter, writtenOutcome, Wrote};
 ghost use Rattle.grid.specs.Grid.{gridOf};
 ghost use Rattle.grid.specs.Check.{Passes};
 ghost use Rattle.listing.specs.Listing.{sheetText, listText, beginning, listing};
-ghost use Rattle.listing.specs.Pieces.{fresh, fedText, fedList, feeding, endText, listingOf, heldLine, listAfter};
-
-// A list as far as it has come.
-pub struct Listing {
-    // The first bytes of the line that has not ended, and how many. 65 stand for every line above 64 bytes.
-    held: [u8; 65],
-    length: usize,
-    pub totals: Totals,
-}
-
-// How many lines were answered, and how many were refused.
-pub struct Totals {
-    pub answered: i64,
-    pub refused: i64,
-}
+ghost use Rattle.listing.specs.Pieces.{fedText, fedList, feeding, endText, listAfter};
 
 // What a piece comes to: the list behind it, and the bytes that were written.
 pub struct Fed {
     pub list: Listing,
     pub written: Written,
-}
-
-impl Listing {
-    // No byte was read yet.
-    pub fn new() -> Listing
-        ensures { λ r. ⌜ r ≡ fresh ⌝ }
-    {
-        Listing::between(Totals {
-            answered: 0,
-            refused: 0,
-        })
-    }
-
-    // A list that goes on from plain parts: the line that has not ended, and the totals.
-    pub fn resumed(line: &[u8], totals: Totals) -> Listing
-        ensures { λ r. ⌜ r ≡ listingOf (take 65 (now (line .entry))) totals ⌝ }
-    {
-        Listing::between(totals).hold(line)
-    }
-
-    // Writes the line that has not ended, 65 bytes at the most.
-    pub fn write_line(self, room: &mut [u8]) -> Written
-        ensures { λ r. ⌜ Wrote (heldLine self) (now (room .entry)) (now (room .exit)) r ⌝ }
-    {
-        let held = self.held;
-        let kept = least(self.length, 65);
-        write_text(&held[..kept], room)
-    }
-
-    // No line is under way.
-    pub(crate) fn between(totals: Totals) -> Listing
-        ensures { λ r. ⌜ r ≡ listingOf [] totals ⌝ }
-    {
-        Listing {
-            held: [0; 65],
-            length: 0,
-            totals,
-        }
-    }
 }
 
 // The first line of a list: 2, 5, 3, 4, then 8.

@@ -1,7 +1,4 @@
 // The writers of the parts of a list. In a room of no bytes they only count.
-use super::Listing;
-use super::Totals;
-use super::held::one_more;
 use super::reading::BATCH;
 use super::reading::NUMBERS;
 use super::reading::read_batch;
@@ -9,6 +6,8 @@ use super::replying::Replied;
 use super::replying::put_answers;
 use convert::batch::convert_batch;
 use grid::Header;
+use list_state::Listing;
+use list_state::Totals;
 use requests::Reply;
 use slices::least;
 use writing::saturating_add;
@@ -144,13 +143,12 @@ pub(crate) fn put_end(list: Listing, room: &mut [u8]) -> usize
 {
     let totals = list.totals;
     if list.length == 0 {
-        return Reply::Done(totals.answered, totals.refused)
-            .write(room)
-            .bytes();
+        return totals.reply().write(room).bytes();
     }
-    let at = Reply::No(1).write(room).bytes();
+    let no = Reply::No(1);
+    let at = no.write(room).bytes();
     let from = least(at, room.len());
-    let done = Reply::Done(totals.answered, one_more(totals.refused));
+    let done = totals.count(no).reply();
     saturating_add(at, done.write(&mut room[from..]).bytes())
 }
 

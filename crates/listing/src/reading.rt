@@ -1,7 +1,7 @@
 // The first step of a batch: request lines, read into ways and points.
-use super::Listing;
 use convert::batch::TO27;
 use convert::batch::TO83;
+use list_state::Listing;
 use requests::Asked;
 use requests::Request;
 use slices::put;

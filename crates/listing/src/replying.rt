@@ -1,8 +1,8 @@
 // The last step of a batch: replies, written from ways, answers and refusals.
-use super::Totals;
 use convert::batch::TO83;
 use figures::Point27;
 use figures::Point83;
+use list_state::Totals;
 use requests::Reply;
 use slices::least;
 use slices::number_at;

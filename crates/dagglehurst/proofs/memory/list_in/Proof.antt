@@ -3,7 +3,7 @@ use native.Mathlib.Omega.{arith}
 use mathlib.Core.Path.{sym, ap, _∙_}
 use lib.Seq.{length-take-le}
 use Rattle.laws.specs.Tests.{element}
-use Rattle.listing.specs.Pieces.{listingOf}
+use Rattle.list_state.specs.State.{listingOf}
 use Rattle.dagglehurst.specs.Header.{number}
 use Rattle.dagglehurst.specs.Pieces.{lineLength, listIn}
 use Rattle.dagglehurst.proofs.ListLaws.{whole-line}

@@ -7,7 +7,7 @@ use mathlib.Core.List.{[], _∷_}
 use lib.ListN.{length}
 use lib.IntN.{pos}
 use Rattle.laws.specs.Over.{over}
-use Rattle.listing.specs.Pieces.{heldLine}
+use Rattle.list_state.specs.State.{heldLine}
 use Rattle.dagglehurst.proofs.Laws.{front-none, front-more}
 use Rattle.dagglehurst.proofs.ListLaws.{held-short, line-stored}
 use Rattle.dagglehurst.proofs.memory.put_list.Statement.{statement}
