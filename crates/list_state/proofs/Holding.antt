@@ -1,4 +1,4 @@
--- The line that a list holds, with more bytes; and totals.
+-- The line that a list holds: with more bytes, and as a request; and totals.
 use Prim.Native.Nat.{ℕ, zero, suc, _+_, _-_, _^_, _≤_, _<_, min}
 use mathlib.Core.Path.{_≡_, refl, sym, ap, _∙_}
 use mathlib.Core.List.{List, [], _∷_, _++_}
@@ -29,8 +29,10 @@ pub same-listing : (l : List ℕ) {h : List ℕ} {n : ℕ} {t u : Totals} → h 
     → _≡_ {A = Listing} (record { held = h; length = n; totals = u }) (listingOf l t)
 same-listing l p q u = λ i. record { held = p i; length = q i; totals = u i }
 
-pub same-totals : {a b r s : ℤ} → a ≡ b → r ≡ s → _≡_ {A = Totals} (record { answered = a; refused = r }) (record { answered = b; refused = s })
-same-totals p q = λ i. record { answered = p i; refused = q i }
+-- ---- the line with more bytes
+
+pub at-most-65 : (l : List ℕ) → length (take 65 l) ≤ 65
+at-most-65 l = simp length-take (omega arith)
 
 -- the first j elements of two lists
 take-over : (j : ℕ) (v w : List ℕ) → length v ≤ j → take j (v ++ w) ≡ v ++ take (j - length v) w
@@ -67,10 +69,10 @@ module _ (s : Listing) (part : List ℕ) {k n : ℕ} (long : length (s .held) �
       let j = exact-count back (omega (arith, g)) ∙ g in
       let all = put-rest {r = k + n} front (omega (arith, i, front .kept, z)) (omega (arith, z)) back (omega (arith, i, j)) in
       let whole = rw line at (rw d at all) in
-      let l : length (take 65 (heldLine s ++ part)) ≤ 65 = simp length-take (omega arith) in
+      let l = at-most-65 (heldLine s ++ part) in
       (whole .wrote (omega (arith, z)), omega (arith, whole .counted))
 
--- 65 bytes of a line are enough: a line above 64 is refused whatever it is
+-- ---- 65 bytes of a line are enough: a line above 64 is refused whatever it is
 
 pub too-long : (l : List ℕ) → 64 < length l → requestIn l ≡ otherForm
 unfolding requestIn
@@ -83,7 +85,7 @@ capped-request l =
     (λ h. ap requestIn (take-all 65 l (omega arith)))
     (lt-or-ge 64 (length l))
 
--- ---- the line that a list holds
+-- ---- the line of a list that was made of one
 
 pub held-of : (l : List ℕ) (t : Totals) → length l ≤ 65 → heldLine (listingOf l t) ≡ l
 held-of l t h =
@@ -95,8 +97,13 @@ pub held-front : (l : List ℕ) {s : Listing} {t : Totals} → s ≡ listingOf (
 held-front l e =
     let v = take 65 l in
     let z : length (replicate {A = ℕ} 65 0) ≡ 65 = length-replicate {A = ℕ} 65 0 in
-    let h : length v ≤ 65 = simp length-take (omega arith) in
+    let h = at-most-65 l in
     rw e (omega (arith, length-over v (replicate 65 0) (omega (arith, z)), z), over-take v (replicate 65 0) (length v) refl)
+
+-- ---- totals
+
+pub same-totals : {a b r s : ℤ} → a ≡ b → r ≡ s → _≡_ {A = Totals} (record { answered = a; refused = r }) (record { answered = b; refused = s })
+same-totals p q = λ i. record { answered = p i; refused = q i }
 
 -- one more than a number below the greatest
 module _ {x : ℤ} (f : SFits w64 x) (h : x <ℤ pos 9223372036854775807) where
