@@ -36,15 +36,17 @@ static int read_grid(void) {
     return nodes;
 }
 
-// The bilinear shift in a cell, rounded to the nearest, a tie away from zero.
+// The bilinear shift in a cell, rounded to the nearest, a tie to the even number: an odd quotient takes twice the remainder one further
+// from zero, and that decides a tie.
 static number interpolate(const number *sw, number a, number b, number c, number d) {
     const number *nw = sw + cols;
     number denominator = (a + b) * (c + d);
     number numerator = sw[0] * b * d + sw[1] * a * d + nw[0] * b * c + nw[1] * a * c;
     number q = numerator / denominator, r = numerator % denominator;
-    if (2 * r >= denominator)
+    number twice = 2 * r + q % 2;
+    if (twice > denominator)
         return q + 1;
-    if (2 * r <= -denominator)
+    if (twice < -denominator)
         return q - 1;
     return q;
 }

@@ -2,11 +2,12 @@
 // grid is trusted to pass the checks, every point to lie on the grid, and every NAD 83 figure to be the answer of a point.
 #include "points.h"
 
-// The nearest whole number to a fraction, a tie going away from zero. Without branches: the processor could not foretell them, and the
-// time would depend on the signs of the shifts.
+// The nearest whole number to a fraction, a tie going to the even one: an odd quotient takes twice the remainder one further from zero,
+// and that decides a tie. Without branches: the processor could not foretell them, and the time would depend on the signs of the shifts.
 static inline int64_t rounded(int64_t numerator, int64_t denominator) {
     int64_t q = numerator / denominator, r = numerator % denominator;
-    return q + (2 * r >= denominator) - (2 * r <= -denominator);
+    int64_t twice = 2 * r + q % 2;
+    return q + (twice > denominator) - (twice < -denominator);
 }
 
 // The shifts at the point x east and y north of the southwest corner.

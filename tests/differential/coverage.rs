@@ -43,11 +43,17 @@ const KNOWN: [Known; CALLS] = [
 ];
 
 /// Everything else that a run has to reach.
-const MARKS: [&str; 82] = [
-    "point: tie, positive latitude shift",
-    "point: tie, negative latitude shift",
-    "point: tie, positive longitude shift",
-    "point: tie, negative longitude shift",
+const MARKS: [&str; 88] = [
+    "point: tie toward zero, positive latitude shift",
+    "point: tie toward zero, negative latitude shift",
+    "point: tie toward zero, positive longitude shift",
+    "point: tie toward zero, negative longitude shift",
+    "point: tie away from zero, positive latitude shift",
+    "point: tie away from zero, negative latitude shift",
+    "point: tie away from zero, positive longitude shift",
+    "point: tie away from zero, negative longitude shift",
+    "point: tie in a cell of 1,000 by 1,000",
+    "point: tie in another cell",
     "point: south edge",
     "point: north edge",
     "point: west edge",

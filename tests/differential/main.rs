@@ -20,6 +20,7 @@ mod points;
 mod random;
 mod run;
 mod texts;
+mod ties;
 
 use std::time::Duration;
 

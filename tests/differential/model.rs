@@ -2,6 +2,8 @@
 //!
 //! Everything is counted in i128, so that no product or sum of 64-bit numbers can overflow here.
 
+use std::cmp::Ordering;
+
 /// The number of a refusal and the place it reports.
 #[derive(Clone, Copy, Debug, PartialEq)]
 pub struct Refusal {
@@ -201,13 +203,14 @@ fn cell(distance: i128, spacing: i128) -> i128 {
     }
 }
 
-/// The nearest whole number, a tie going away from zero.
+/// The nearer of the two whole numbers around the fraction, and the even one where both are equally near.
 fn nearest((numerator, denominator): (i128, i128)) -> i128 {
-    let size = (2 * numerator.abs() + denominator) / (2 * denominator);
-    if numerator < 0 {
-        -size
-    } else {
-        size
+    let below = numerator.div_euclid(denominator);
+    let above = below + 1;
+    match (numerator - below * denominator).cmp(&(above * denominator - numerator)) {
+        Ordering::Less => below,
+        Ordering::Greater => above,
+        Ordering::Equal => [below, above].into_iter().find(|whole| whole % 2 == 0).expect("one of two neighbours is even"),
     }
 }
 

@@ -22,7 +22,7 @@ pub fn points(bench: &mut Bench) {
     expect(bench, Call::To83, &p, [118_125_000, -298_575_000], Ok([11_812_554_500, -29_857_454_750]));
     expect(bench, Call::To83, &p, [118_350_001, -298_800_000], refuse(6, 0));
     expect(bench, Call::To83, &p, [118_350_000, -298_800_001], refuse(6, 0));
-    expect(bench, Call::To83, &q, [0, 500], Ok([1, 49_999]));
+    expect(bench, Call::To83, &q, [0, 500], Ok([0, 50_000]));
     expect(bench, Call::To83, &q, [0, 499], Ok([0, 49_900]));
     expect(bench, Call::To27, &p, p3.1, Ok(p3.0));
     expect(bench, Call::To27, &p, [p3.1[0] + 1, p3.1[1]], refuse(7, 0));

@@ -283,7 +283,7 @@ pub fn spoilt_behind_a_piece(bench: &mut Bench) {
             }
         }
         let answer = bench.feed(&good, &mut memory, Some(b"00\n"), Some);
-        if answer.as_deref() != Ok(b"ok83=1,49999\n") {
+        if answer.as_deref() != Ok(b"ok83=0,50000\n") {
             fail(Call::Feed, "sheet Q again, as it is", "the line's answer", &format!("{answer:?}"));
         }
         bench.finish(&memory, Some);

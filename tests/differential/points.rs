@@ -98,7 +98,7 @@ fn around_answers(bench: &mut Bench, random: &mut Random, case: &Case, points: &
 }
 
 /// Notes where a point lies and whether its shifts are ties.
-fn mark_point(bench: &mut Bench, grid: &Grid, point: [i64; 2]) {
+pub fn mark_point(bench: &mut Bench, grid: &Grid, point: [i64; 2]) {
     let [lat, lon] = point.map(i128::from);
     let (north, east) = (grid.north(), grid.east());
     let inside = (grid.south <= lat && lat <= north, grid.west <= lon && lon <= east);
@@ -121,12 +121,30 @@ fn mark_point(bench: &mut Bench, grid: &Grid, point: [i64; 2]) {
     marks.mark_if(on_side.0, "point: side shared by a south and a north cell");
     marks.mark_if(on_side.1, "point: side shared by a west and an east cell");
     marks.mark_if(on_side == (true, true), "point: inner node");
-    let is_tie = |(numerator, denominator): (i128, i128)| 2 * (numerator % denominator).abs() == denominator;
-    let (lat_shift, lon_shift) = (grid.lat_fraction(lat, lon), grid.lon_fraction(lat, lon));
-    marks.mark_if(is_tie(lat_shift) && lat_shift.0 > 0, "point: tie, positive latitude shift");
-    marks.mark_if(is_tie(lat_shift) && lat_shift.0 < 0, "point: tie, negative latitude shift");
-    marks.mark_if(is_tie(lon_shift) && lon_shift.0 > 0, "point: tie, positive longitude shift");
-    marks.mark_if(is_tie(lon_shift) && lon_shift.0 < 0, "point: tie, negative longitude shift");
+    mark_tie(bench, LAT_TIES, grid.lat_fraction(lat, lon));
+    mark_tie(bench, LON_TIES, grid.lon_fraction(lat, lon));
+}
+
+/// The ties of one component, by the shift's sign, and by whether the even number lies toward zero or away from it.
+type Ties = [[&'static str; 2]; 2];
+
+const LAT_TIES: Ties = [
+    ["point: tie toward zero, positive latitude shift", "point: tie away from zero, positive latitude shift"],
+    ["point: tie toward zero, negative latitude shift", "point: tie away from zero, negative latitude shift"],
+];
+
+const LON_TIES: Ties = [
+    ["point: tie toward zero, positive longitude shift", "point: tie away from zero, positive longitude shift"],
+    ["point: tie toward zero, negative longitude shift", "point: tie away from zero, negative longitude shift"],
+];
+
+fn mark_tie(bench: &mut Bench, names: Ties, (numerator, denominator): (i128, i128)) {
+    if 2 * (numerator % denominator).abs() == denominator {
+        let away = numerator / denominator % 2 != 0;
+        bench.coverage.mark(names[usize::from(numerator < 0)][usize::from(away)]);
+        bench.coverage.mark_if(denominator == 1_000_000, "point: tie in a cell of 1,000 by 1,000");
+        bench.coverage.mark_if(denominator != 1_000_000, "point: tie in another cell");
+    }
 }
 
 fn mark_back(bench: &mut Bench, grid: &Grid, point: Option<[i64; 2]>) {

@@ -2,7 +2,7 @@
 
 use crate::compare::Bench;
 use crate::random::Random;
-use crate::{broken, exhaustive, grids, lists, memory, paper, pieces, points, texts};
+use crate::{broken, exhaustive, grids, lists, memory, paper, pieces, points, texts, ties};
 use std::time::{Duration, Instant};
 
 /// The seed of the short run, and of a long one that is given no other.
@@ -36,6 +36,7 @@ fn fixed(bench: &mut Bench, random: &mut Random) {
     paper::points(bench);
     paper::list(bench);
     paper::too_steep(bench);
+    ties::compare(bench);
     broken::header_edges(bench, random);
     broken::each_node(bench, random);
     broken::range_before_steepness(bench, random);

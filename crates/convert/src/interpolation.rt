@@ -4,8 +4,9 @@ use shift::Corners;
 use shift::Distances;
 ghost use mathlib.Core.Path.{_≡_};
 ghost use Prim.Native.Nat.{_+_, _*_, _≤_, _<_};
+ghost use lib.IntN.{natAbs};
 ghost use Rattle.laws.specs.Parts.{Within};
-ghost use Rattle.shift.specs.Round.{nearest};
+ghost use Rattle.shift.specs.Round.{roundSize, nearest};
 ghost use Rattle.shift.specs.Shift.{numerator, fourCorner};
 ghost use Rattle.shift.specs.Needs.{Weighted, CornersIn};
 
@@ -29,19 +30,37 @@ fn numerator(s: Corners, at: Distances) -> i64
     s.s1 * b * d + s.s2 * a * d + s.s3 * b * c + s.s4 * a * c
 }
 
-// The nearest whole number to `n / d`, a tie away from zero: by quotient and remainder, since 2n may not fit.
+// The nearest whole number to `n / d`, a tie to the even one: the size is rounded, and the sign stays.
 fn rounded(n: i64, d: usize) -> i64
     requires { ⌜ (Within 4860000000000000000 n) × (0 < d) × (d ≤ 810000000000) ⌝ }
     ensures { λ r. ⌜ r ≡ nearest d n ⌝ }
 {
-    let d = d as i64;
+    let size = rounded_size(magnitude(n), d) as i64;
+    if n < 0 {
+        return -size;
+    }
+    size
+}
+
+fn magnitude(n: i64) -> usize
+    requires { ⌜ Within 4860000000000000000 n ⌝ }
+    ensures { λ r. ⌜ r ≡ natAbs n ⌝ }
+{
+    if n < 0 {
+        return (-n) as usize;
+    }
+    n as usize
+}
+
+// By quotient and remainder, since 2n may not fit. An odd quotient counts one: that decides a tie, and nothing else.
+fn rounded_size(n: usize, d: usize) -> usize
+    requires { ⌜ (n ≤ 4860000000000000000) × (0 < d) × (d ≤ 810000000000) ⌝ }
+    ensures { λ r. ⌜ (r ≡ roundSize d n) × (r ≤ 4860000000000000001) ⌝ }
+{
     let q = n / d;
     let r = n % d;
-    if d <= 2 * r {
+    if d < 2 * r + q % 2 {
         return q + 1;
-    }
-    if 2 * r <= -d {
-        return q - 1;
     }
     q
 }

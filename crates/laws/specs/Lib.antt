@@ -2,7 +2,6 @@ pub mod Parts
 pub mod Bounds
 pub mod Expr
 pub mod Tests
-pub mod Quotient
 pub mod Logic
 pub mod First
 pub mod Bytes

@@ -6,7 +6,7 @@ use mathlib.Core.Path.{_≡_, refl, sym, ap, _∙_}
 use Prim.Native.Nat.{ℕ, zero, suc, _+_, _*_, _-_, _≤_, _<_, _^_, min}
 use native.Mathlib.Omega.{arith}
 use mathlib.Core.Bool.{Bool, true, false, not, cond}
-use lib.Dec.{T, ltb, ltb→lt, nltb→le, leb→le, lt→ltb, le→leb, nleb→lt}
+use lib.Dec.{T, ltb, ltb→lt, nltb→le, leb→le, lt→ltb, le→leb}
 use lib.IntN.{ℤ, pos, negsuc, negℤ, natAbs, subℕ, _+ℤ_, _*ℤ_}
 use lib.Signed.{mag, _≤ℤ_, _<ℤ_, leZ, ltZ}
 use mir.Syntax.{Width}
@@ -143,13 +143,6 @@ pub ≡→ : {a b : ℤ} → a ≡ b → posPart a + negPart b ≡ posPart b + n
 
 pub ≡← : {a b : ℤ} → posPart a + negPart b ≡ posPart b + negPart a → a ≡ b
 ≡← {a} {b} h = eq-whole a b h
-
--- a test that failed
-pub leZ-no : (a b : ℤ) → T (not (leZ a b)) → b <ℤ a
-leZ-no (pos a) (pos b) t = record { lt = lt→ltb b a (nleb→lt a b t) }
-leZ-no (pos a) (negsuc b) t = record { lt = tt }
-leZ-no (negsuc a) (pos b) t = absurd t
-leZ-no (negsuc a) (negsuc b) t = record { lt = lt→ltb a b (nleb→lt b a t) }
 
 -- ---- bounds
 

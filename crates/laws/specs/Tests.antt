@@ -6,11 +6,11 @@ use mathlib.Core.Bool.{Bool, true, false, not, _&&_}
 use lib.Dec.{T, eqb}
 use borrow.Author.Tests.{eqb-true, eqb-false}
 use lib.IntN.{ℤ, pos, negsuc, natAbs}
-use lib.Signed.{mag, nonNeg, ltZ, leZ, _<ℤ_, _≤ℤ_, ltZ-yes, ltZ-no, leZ-yes, yes-nonNeg, pos-natAbs}
+use lib.Signed.{mag, nonNeg, ltZ, _<ℤ_, _≤ℤ_, ltZ-yes, ltZ-no, yes-nonNeg, pos-natAbs}
 use mir.Syntax.{w64}
 use mir.Val.{SFits, Fits, ofZ, toZ}
 use mir.Facts.{and-yes, toZ-ofZ, fits-natAbs}
-use Rattle.laws.specs.Parts.{posPart, leZ-no, ints}
+use Rattle.laws.specs.Parts.{posPart, ints}
 use Rattle.laws.specs.Expr.{Expr, machine, reads, reads₂}
 use Rattle.laws.specs.Logic.{not-both, eqZ, eqZ-holds, eqZ-true}
 
@@ -27,12 +27,6 @@ module _ {x y : ℤ} (a : Expr x) (b : Expr y) (t : T ((a .parts && a .small) &&
 
   pub lt-no : ltZ (a .got) (b .got) ≡ false → y ≤ℤ x
   lt-no p = ltZ-no (is-false (sym (reads₂ ltZ a b t) ∙ p))
-
-  pub le-yes : leZ (a .got) (b .got) ≡ true → x ≤ℤ y
-  le-yes p = leZ-yes (is-true (sym (reads₂ leZ a b t) ∙ p))
-
-  pub le-no : leZ (a .got) (b .got) ≡ false → y <ℤ x
-  le-no p = leZ-no x y (is-false (sym (reads₂ leZ a b t) ∙ p))
 
 -- an equality is tested on the bits
 pub eq-yes : {x y : ℤ} → SFits w64 x → SFits w64 y → ofZ w64 x ≡ ofZ w64 y → x ≡ y

@@ -2,6 +2,7 @@
 // in sheet.txt. For each its name is printed, and then what the list program prints there.
 //
 //     empty_input         no request lines: the number of nodes, and totals of 0
+//     ties                shifts halfway between two whole numbers, each way from zero: the even one is answered, and taken back
 //     damaged_lines       lines of 64, 65 and 40,000 bytes, the last longer than four blocks, empty lines, a hundred of them in a row,
 //                         bytes that are no text, a carriage return, a last line without its newline, and good lines between them
 //     refused_sheet       a grid whose header breaks rule 3 (dlat=900001): the refusal alone, whatever was asked

@@ -17,13 +17,13 @@ use Rattle.grid.specs.Needs.{Extent}
 use Rattle.grid.specs.declared.Shape.{Shape}
 use Rattle.grid.proofs.RuleLaws.{Between}
 use Rattle.grid.proofs.NodeLaws.{Sound}
-use Rattle.shift.specs.Round.{nearest}
+use Rattle.shift.specs.Round.{NearestEven, nearest}
 use Rattle.shift.specs.Shift.{numerator, fourCorner, cornersAt, southwest, northwest, componentIn, cellAt, component, raise}
 use Rattle.shift.specs.Needs.{CellIn, Weighted, CornersIn}
 use Rattle.shift.specs.declared.Cell.{Cell}
 use Rattle.shift.specs.declared.Corners.{Corners}
 use Rattle.shift.specs.declared.Distances.{Distances}
-use Rattle.shift.proofs.Rounding.{nearest-raised, NearestAway, nearest-away}
+use Rattle.shift.proofs.Rounding.{nearest-raised, nearest-even}
 use Rattle.shift.proofs.Sums.{four-corner-within}
 use Rattle.shift.proofs.Cells.{CellOf, edges, spacings, cell-of-point, cell-in, corners-in, weighted}
 
@@ -156,9 +156,9 @@ module _ {s : Shape} (z : Extent s) {S : List ℤ} (p : Sound s S) where
     shift-range = component-range (cell-in z (cell-of-point z hx hy))
 
     -- demand 2: it is the exact fraction, rounded once
-    pub shift-rounded : let k = cellAt s x y in NearestAway (s .dlon * s .dlat) (numerator (cornersAt S (southwest (s .cols) k) (northwest (s .cols) k)) (k .distances)) (component s S x y)
+    pub shift-rounded : let k = cellAt s x y in NearestEven (s .dlon * s .dlat) (numerator (cornersAt S (southwest (s .cols) k) (northwest (s .cols) k)) (k .distances)) (component s S x y)
     unfolding component
-    shift-rounded = rw (component-is (cell-in z (cell-of-point z hx hy))) (nearest-away _ _ (mul-pos (spacings z .0) (spacings z .1)))
+    shift-rounded = rw (component-is (cell-in z (cell-of-point z hx hy))) (nearest-even _ _ (mul-pos (spacings z .0) (spacings z .1)))
 
     shift-nearest : Nearest (s .dlon * s .dlat) (surface (s .dlon) (s .dlat) (s .cols - 2) (s .rows - 2) (raisedNodes (s .cols) S) x y) (raise (component s S x y))
     unfolding component

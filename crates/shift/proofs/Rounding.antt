@@ -1,30 +1,42 @@
--- Laws of rounding: what the theorems use (a nearest whole number, raised or not), and what the code has at each of its answers.
+-- Laws of rounding: what the theorems use (a nearest whole number, raised or not), what the rounding means, and what the code has at each
+-- of its answers.
 use Prim.Native.Nat.{ℕ, suc, _+_, _*_, _-_, _/_, _%_, _≤_, _<_}
-use native.Mathlib.Nat.{mod-lt, zero-mod, zero-div, div-add-mod}
+use native.Mathlib.Nat.{mod-lt, div-add-mod, mul-le-mul-left, le-of-mul-le-mul-left}
 use native.Mathlib.Omega.{arith}
-use mathlib.Core.Path.{_≡_, refl, ap, _∙_}
-use mathlib.Core.Logic.{_⊎_, inl, inr, ⊎-elim}
-use mathlib.Core.Bool.{Bool, true, false, cond}
-use lib.Dec.{leb, leb→le}
-use borrow.Author.Tests.{le-leb, lt-leb, leb-true, leb-false}
+use mathlib.Core.Path.{_≡_, refl, ap}
+use mathlib.Core.Logic.{⊎-elim}
+use borrow.Author.Tests.{lt-ltb, le-ltb}
 use lib.IntN.{ℤ, pos, negsuc, negℤ, natAbs, _+ℤ_, _-ℤ_, _*ℤ_}
-use lib.Signed.{quotZ, remZ, _≤ℤ_, _<ℤ_}
-use Rattle.laws.specs.Parts.{posPart, negPart, ints, Within, parts-disjoint, abs-diff}
-use Rattle.laws.specs.Bounds.{abs-neg, abs-mul}
+use lib.Signed.{_≤ℤ_, _<ℤ_}
+use Rattle.laws.specs.Logic.{lt-or-ge}
+use Rattle.laws.specs.Parts.{posPart, negPart, ints, Within, abs-diff}
+use Rattle.laws.specs.Bounds.{abs-neg}
 use Rattle.laws.specs.Expr.{lit, linear, _⊕_, _⊖_, _⊛_, ⊝}
-use Rattle.laws.specs.Quotient.{quot-posPart, quot-negPart, rem-posPart, rem-negPart}
 use Rattle.bilinear.specs.Surface.{Nearest, nearest-up, nearest-down, nearest-between}
-use Rattle.shift.specs.Round.{roundSize, nearest}
+use Rattle.shift.specs.Round.{Even, NearestEven, roundSize, nearest}
+
+-- ---- the two cases of a size
+
+-- twice the remainder, and one more where the quotient is odd: what is compared with the divisor
+abbrev pub sizeTwice : (d n : ℕ) → ℕ
+sizeTwice d n = 2 * (n % d) + (n / d) % 2
+
+pub size-up : (d n : ℕ) → d < sizeTwice d n → roundSize d n ≡ suc (n / d)
+unfolding roundSize
+size-up d n l = rw (lt-ltb d (sizeTwice d n) l)
+
+pub size-kept : (d n : ℕ) → sizeTwice d n ≤ d → roundSize d n ≡ n / d
+unfolding roundSize
+size-kept d n l = rw (le-ltb d (sizeTwice d n) l)
 
 -- ---- for the theorems: any rounding to nearest has these, whatever it does with a tie
 
 size-nearest : (d n : ℕ) → 0 < d → Nearest d n (roundSize d n)
-unfolding roundSize
-size-nearest d n p = go (leb d (2 * (n % d))) refl
-  where
-    go : (b : Bool) → leb d (2 * (n % d)) ≡ b → Nearest d n (cond b (suc (n / d)) (n / d))
-    go true e = nearest-up n d p (leb-true _ _ e)
-    go false e = nearest-down n d p (omega (arith, leb-false d (2 * (n % d)) e))
+size-nearest d n p =
+    ⊎-elim
+    (λ l. rw (size-up d n l) (nearest-up n d p (omega (arith, l))))
+    (λ l. rw (size-kept d n l) (nearest-down n d p (omega (arith, l))))
+    (lt-or-ge d (sizeTwice d n))
 
 -- raised by `K`, or by `K * d` before the division, it is a nearest whole number still
 pub nearest-raised : (K d M R : ℕ) (z : ℤ) → 0 < d → pos M ≡ z +ℤ pos (K * d) → pos R ≡ nearest d z +ℤ pos K → Nearest d M R
@@ -51,65 +63,68 @@ nearest-within K d (negsuc n) p h =
 
 -- ---- what the rounding is, said without quotient and remainder
 
--- `r` is a whole number nearest to z / d, and of two that are equally near the one farther from zero
-pub record NearestAway (d : ℕ) (z r : ℤ) : Type 0 where
-  pub near : 2 * natAbs (pos d *ℤ r -ℤ z) ≤ d
-  pub tie : 2 * natAbs (pos d *ℤ r -ℤ z) ≡ d → natAbs z ≤ natAbs (pos d *ℤ r)
+-- of sizes: at a tie the result is even
+size-tie : (d n : ℕ) → 0 < d → let r = roundSize d n in 2 * (d * r - n) + 2 * (n - d * r) ≡ d → r % 2 ≡ 0
+size-tie d n p t =
+    ⊎-elim
+    (λ l. let e = size-up d n l in omega (arith, e, l, t, ap (λ r. d * r) e, div-add-mod n d, mod-lt n p))
+    (λ l. let e = size-kept d n l in omega (arith, e, l, t, ap (λ r. d * r) e, div-add-mod n d))
+    (lt-or-ge d (sizeTwice d n))
 
--- of sizes: the error, and where it is half the divisor the result is not the smaller
-size-away : (d n : ℕ) → 0 < d → (2 * (d * roundSize d n - n) + 2 * (n - d * roundSize d n) < d) ⊎ ((n ≤ d * roundSize d n) × (2 * (d * roundSize d n) ≤ 2 * n + d))
-unfolding roundSize
-size-away d n p = go (leb d (2 * (n % d))) refl
-  where
-    go : (b : Bool) → leb d (2 * (n % d)) ≡ b
-        → let r = cond b (suc (n / d)) (n / d) in (2 * (d * r - n) + 2 * (n - d * r) < d) ⊎ ((n ≤ d * r) × (2 * (d * r) ≤ 2 * n + d))
-    go true e = let l : d ≤ 2 * (n % d) = leb-true _ _ e in let m = div-add-mod n d in let k = mod-lt n p in inr (omega arith, omega arith)
-    go false e = let l : 2 * (n % d) < d = leb-false d (2 * (n % d)) e in let m = div-add-mod n d in inl (omega arith)
+even-size : (r : ℕ) → r % 2 ≡ 0 → Even (pos r)
+even-size r e = record { half = pos (r / 2); twice = omega (arith, ints, linear (lit (pos 2) ⊛ lit (pos (r / 2)))) }
 
-pub nearest-away : (d : ℕ) (z : ℤ) → 0 < d → NearestAway d z (nearest d z)
+even-neg : {r : ℤ} → Even r → Even (negℤ r)
+even-neg {r} e = record { half = negℤ (e .half); twice = omega (arith, ints, e .twice, linear (⊝ (lit r)), linear (lit (pos 2) ⊛ lit (e .half)), linear (lit (pos 2) ⊛ ⊝ (lit (e .half)))) }
+
+pub nearest-even : (d : ℕ) (z : ℤ) → 0 < d → NearestEven d z (nearest d z)
 unfolding nearest
-nearest-away d (pos n) p =
+nearest-even d (pos n) p =
     let r = roundSize d n in
+    let k = size-nearest d n p in
     let e = linear (lit (pos d) ⊛ lit (pos r) ⊖ lit (pos n)) in
     let a = abs-diff (pos d *ℤ pos r -ℤ pos n) in
-    ⊎-elim
-    (λ l. record { near = omega (arith, e, a); tie = λ t. absurd (omega (arith, e, a, t)) })
-    (λ l. record { near = omega (arith, e, a); tie = λ t. omega arith })
-    (size-away d n p)
-nearest-away d (negsuc n) p =
+    record { near = omega (arith, e, a, k); tie = λ t. even-size r (size-tie d n p (omega (arith, e, a, t))) }
+nearest-even d (negsuc n) p =
     let r = roundSize d (suc n) in
+    let k = size-nearest d (suc n) p in
     let e = linear (lit (pos d) ⊛ ⊝ (lit (pos r)) ⊖ lit (negsuc n)) in
     let a = abs-diff (pos d *ℤ negℤ (pos r) -ℤ negsuc n) in
-    let b = abs-mul (pos d) (negℤ (pos r)) ∙ ap (λ t. d * t) (abs-neg (pos r)) in
+    record { near = omega (arith, e, a, k); tie = λ t. even-neg (even-size r (size-tie d (suc n) p (omega (arith, e, a, t)))) }
+
+-- of two neighbours one is odd
+not-both-even : {r r' : ℤ} → Even r → Even r' → posPart r' + negPart r ≡ suc (posPart r + negPart r') → ⊥
+not-both-even {r} {r'} e e' s = omega (arith, ints, e .twice, e' .twice, linear (lit (pos 2) ⊛ lit (e .half)), linear (lit (pos 2) ⊛ lit (e' .half)))
+
+-- of two such numbers the greater would be the next one, both at a tie, and so both even
+none-greater : {d : ℕ} {z r r' : ℤ} → 0 < d → NearestEven d z r → NearestEven d z r' → posPart r + negPart r' < posPart r' + negPart r → ⊥
+none-greater {d} {z} {r} {r'} p h h' l =
+    let e = linear (lit (pos d) ⊛ lit r ⊖ lit z) in
+    let e' = linear (lit (pos d) ⊛ lit r' ⊖ lit z) in
+    let a = abs-diff (pos d *ℤ r -ℤ z) in
+    let a' = abs-diff (pos d *ℤ r' -ℤ z) in
+    let m = mul-le-mul-left d l in
+    let n : posPart r' + negPart r ≤ posPart r + negPart r' + 1 = le-of-mul-le-mul-left {k = d} (omega (arith, e, e', a, a', h .near, h' .near)) p in
+    let t = h .tie (omega (arith, e, e', a, a', m, h .near, h' .near)) in
+    let t' = h' .tie (omega (arith, e, e', a, a', m, h .near, h' .near)) in
+    not-both-even t t' (omega (arith, l, n))
+
+-- the meaning fixes the number
+pub one-nearest-even : {d : ℕ} {z r r' : ℤ} → 0 < d → NearestEven d z r → NearestEven d z r' → r ≡ r'
+one-nearest-even {d} {z} {r} {r'} p h h' =
     ⊎-elim
-    (λ l. record { near = omega (arith, e, a); tie = λ t. absurd (omega (arith, e, a, t)) })
-    (λ l. record { near = omega (arith, e, a); tie = λ t. omega (arith, b, l) })
-    (size-away d (suc n) p)
+    (λ l. absurd (none-greater p h h' l))
+    (λ g. ⊎-elim (λ l. absurd (none-greater p h' h l)) (λ g'. omega (arith, ints, g, g')) (lt-or-ge (posPart r' + negPart r) (posPart r + negPart r')))
+    (lt-or-ge (posPart r + negPart r') (posPart r' + negPart r))
 
--- ---- what the code has at each of its answers
+-- ---- for the code: the sign stays
 
-module _ (d : ℕ) (p : 0 < d) where
-  pub rem-small : (z : ℤ) → Within d (remZ z (pos d))
-  rem-small z = omega (arith, ints, rem-posPart z d, rem-negPart z d, mod-lt (posPart z) p, mod-lt (negPart z) p, parts-disjoint z, parts-disjoint (remZ z (pos d)))
+pub nearest-below : (d : ℕ) {z : ℤ} → z <ℤ pos 0 → pos 0 -ℤ pos (roundSize d (natAbs z)) ≡ nearest d z
+unfolding nearest
+nearest-below d {z = pos n} h = absurd (omega (arith, ints, h))
+nearest-below d {z = negsuc n} h = omega (arith, ints, linear (lit (pos 0) ⊖ lit (pos (roundSize d (suc n)))), linear (⊝ (lit (pos (roundSize d (suc n))))))
 
-  pub rounded-up : (z : ℤ) → pos d ≤ℤ (pos 2 *ℤ remZ z (pos d)) → quotZ z (pos d) +ℤ pos 1 ≡ nearest d z
-  unfolding nearest roundSize
-  rounded-up (pos n) h = rw (le-leb d (2 * (n % d)) (leb→le _ _ (h .le))) (omega (arith, ints, linear (lit (pos (n / d)) ⊕ lit (pos 1))))
-  rounded-up (negsuc n) h = absurd (omega (arith, ints, linear (lit (pos 2) ⊛ lit (remZ (negsuc n) (pos d))), rem-posPart (negsuc n) d, zero-mod d))
-
-  pub rounded-down : (z : ℤ) → (pos 2 *ℤ remZ z (pos d)) ≤ℤ (pos 0 -ℤ pos d) → quotZ z (pos d) -ℤ pos 1 ≡ nearest d z
-  unfolding nearest roundSize
-  rounded-down (pos n) h = absurd (omega (arith, ints, linear (lit (pos 2) ⊛ lit (remZ (pos n) (pos d))), linear (lit (pos 0) ⊖ lit (pos d)), rem-negPart (pos n) d, zero-mod d))
-  rounded-down (negsuc n) h =
-      let e = linear (lit (pos 2) ⊛ lit (remZ (negsuc n) (pos d))) in
-      let k : d ≤ 2 * (suc n % d) = omega (arith, ints, e, linear (lit (pos 0) ⊖ lit (pos d)), rem-posPart (negsuc n) d, rem-negPart (negsuc n) d, zero-mod d) in
-      rw (le-leb d (2 * (suc n % d)) k)
-      (omega (arith, ints, linear (lit (quotZ (negsuc n) (pos d)) ⊖ lit (pos 1)), quot-posPart (negsuc n) d, quot-negPart (negsuc n) d, zero-div d, linear (⊝ (lit (pos (suc (suc n / d)))))))
-
-  pub not-rounded : (z : ℤ) → (pos 2 *ℤ remZ z (pos d)) <ℤ pos d → (pos 0 -ℤ pos d) <ℤ (pos 2 *ℤ remZ z (pos d)) → quotZ z (pos d) ≡ nearest d z
-  unfolding nearest roundSize
-  not-rounded (pos n) h k = rw (lt-leb d (2 * (n % d)) (omega (arith, ints, linear (lit (pos 2) ⊛ lit (remZ (pos n) (pos d))))))
-  not-rounded (negsuc n) h k =
-      let e = linear (lit (pos 2) ⊛ lit (remZ (negsuc n) (pos d))) in
-      let l : 2 * (suc n % d) < d = omega (arith, ints, e, linear (lit (pos 0) ⊖ lit (pos d)), rem-posPart (negsuc n) d, rem-negPart (negsuc n) d, zero-mod d) in
-      rw (lt-leb d (2 * (suc n % d)) l)
+pub nearest-above : (d : ℕ) {z : ℤ} → pos 0 ≤ℤ z → pos (roundSize d (natAbs z)) ≡ nearest d z
+unfolding nearest
+nearest-above d {z = pos n} h = refl
+nearest-above d {z = negsuc n} h = absurd (h .le)

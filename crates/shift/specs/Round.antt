@@ -1,14 +1,30 @@
--- "rounded to the nearest whole number, a tie going away from zero" (document 01, "The shift at a point"), by quotient and remainder.
-use Prim.Native.Nat.{ℕ, suc, _*_, _/_, _%_}
+-- A fraction rounded to a whole number: "to the nearest" (document 01, "The shift at a point"), and "a tie goes to the even number"
+-- (document 02, request 3).
+use Prim.Native.Nat.{ℕ, suc, _+_, _*_, _/_, _%_, _≤_}
+use mathlib.Core.Path.{_≡_}
 use mathlib.Core.Bool.{cond}
-use lib.Dec.{leb}
-use lib.IntN.{ℤ}
-use Rattle.laws.specs.Quotient.{onSize}
+use lib.Dec.{ltb}
+use lib.IntN.{ℤ, pos, negsuc, negℤ, natAbs, _-ℤ_, _*ℤ_}
 
--- of a size: the quotient, raised by one where twice the remainder is the divisor or more
+-- ---- what it means
+
+-- twice a whole number
+pub record Even (r : ℤ) : Type 0 where
+  pub half : ℤ
+  pub twice : r ≡ pos 2 *ℤ half
+
+-- `r` is a whole number nearest to z / d, and at a tie, where two are equally near, it is the even one
+pub record NearestEven (d : ℕ) (z r : ℤ) : Type 0 where
+  pub near : 2 * natAbs (pos d *ℤ r -ℤ z) ≤ d
+  pub tie : 2 * natAbs (pos d *ℤ r -ℤ z) ≡ d → Even r
+
+-- ---- how it is computed: by quotient and remainder, since twice the numerator need not fit
+
+-- of a size: the quotient, raised by one where twice the remainder is above the divisor, or equal to it with an odd quotient
 unfoldable pub roundSize : (d n : ℕ) → ℕ
-roundSize d n = cond (leb d (2 * (n % d))) (suc (n / d)) (n / d)
+roundSize d n = cond (ltb d (2 * (n % d) + (n / d) % 2)) (suc (n / d)) (n / d)
 
 -- the nearest whole number to z / d: the size is rounded, and the sign stays
 unfoldable pub nearest : (d : ℕ) → ℤ → ℤ
-nearest d z = onSize (roundSize d) z
+nearest d (pos n) = pos (roundSize d n)
+nearest d (negsuc n) = negℤ (pos (roundSize d (suc n)))

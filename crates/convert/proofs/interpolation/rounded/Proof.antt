@@ -1,84 +1,51 @@
-use mathlib.Core.Path.{_∙_}
-use lib.Dec.{lt→ltb, le→leb}
-use lib.IntN.{pos, _*ℤ_}
-use lib.Signed.{_<ℤ_, quotZ, remZ}
-use Rattle.laws.specs.Expr.{Expr, need, reads, bounded, lit, nat, cap, _⊕_, _⊖_, _⊛_}
-use Rattle.laws.specs.Bounds.{widen}
-use Rattle.laws.specs.Tests.{le-yes, le-no}
-use Rattle.laws.specs.Quotient.{quo, rem, need-div}
-use Rattle.shift.proofs.Rounding.{rem-small, rounded-up, rounded-down, not-rounded}
+use native.Mathlib.Omega.{arith}
+use mathlib.Core.Path.{_≡_, ap, _∙_}
+use lib.IntN.{pos, natAbs, _-ℤ_}
+use Rattle.laws.specs.Expr.{Expr, need, reads, bounded, nat, lit, _⊖_}
+use Rattle.laws.specs.Tests.{lt-yes, lt-no}
+use Rattle.shift.specs.Round.{roundSize}
+use Rattle.shift.proofs.Rounding.{nearest-below, nearest-above}
 use borrow.Author.Needs.{needs}
 use Rattle.convert.proofs.interpolation.rounded.Statement.{statement}
 use Rattle.convert.proofs.interpolation.rounded.Tie as tie
 
-module _ (c : tie.Start) where
-  some : pos 0 <ℤ pos (c .args .d)
-  some = record { lt = lt→ltb 0 (c .args .d) (c .pre .1) }
+abbrev N : (s : tie.Start) → Expr (s .args .n)
+N s = bounded (s .pre .0)
 
-  abbrev D : Expr (pos (c .args .d))
-  D = nat (c .pre .2)
+abbrev size : (c : tie.After-rounded-size) → Expr (pos (c .rounded-size .result))
+size c = nat (c .rounded-size .ensures .1)
 
-  abbrev q : Expr (quotZ (c .args .n) (pos (c .args .d)))
-  q = quo (bounded (c .pre .0)) D some
+magnitude-is : (c : tie.After-magnitude) → c .magnitude .result ≡ natAbs (c .before .args .n)
+magnitude-is c = c .magnitude .ensures ∙ ap natAbs (reads (N (c .before)) tt)
 
-  abbrev twice : Expr (pos 2 *ℤ remZ (c .args .n) (pos (c .args .d)))
-  twice = lit (pos 2) ⊛ cap (rem (bounded (c .pre .0)) D some) (widen (rem-small (c .args .d) (c .pre .1) (c .args .n)) (le→leb (c .args .d) 810000000000 (c .pre .2)))
+size-is : (c : tie.After-rounded-size) → let s = c .before .before in c .rounded-size .result ≡ roundSize (s .args .d) (natAbs (s .args .n))
+size-is c = c .rounded-size .ensures .0 ∙ ap (roundSize (c .before .before .args .d)) (magnitude-is (c .before))
 
-cast-d : tie.Need-cast-d
-cast-d c = search needs
+magnitude-requires : tie.Need-magnitude-requires
+magnitude-requires c κs = search needs
 
-div-q : tie.Need-div-q
-div-q c = need-div (bounded (c .pre .0)) (D c) (some c) tt
+rounded-size-requires : tie.Need-rounded-size-requires
+rounded-size-requires c κs = let s = c .before in (omega (arith, magnitude-is c, s .pre .0 .size), s .pre .1, s .pre .2)
 
-rem-r : tie.Need-rem-r
-rem-r c = need-div (bounded (c .pre .0)) (D c) (some c) tt
+cast-size : tie.Need-cast-size
+cast-size c = search needs
 
-mul-if1 : tie.Need-mul-if1
-mul-if1 c = need (twice c) tt
-
-add-result : tie.Need-add-result
-add-result c = need (q (c .before) ⊕ lit (pos 1)) tt
+sub-result : tie.Need-sub-result
+sub-result c = need (lit (pos 0) ⊖ size (c .before)) tt
 
 returns : tie.Need-returns
 returns c =
-    let s = c .before in
-    let e = q s ⊕ lit (pos 1) in
-    reads e tt ∙ rounded-up (s .args .d) (s .pre .1) (s .args .n) (le-yes (D s) (twice s) tt (c .if1 .taken))
-
-mul-if2 : tie.Need-mul-if2
-mul-if2 c = need (twice (c .before)) tt
-
-sub-if2 : tie.Need-sub-if2
-sub-if2 c = need (lit (pos 0) ⊖ D (c .before)) tt
-
-sub-result : tie.Need-sub-result
-sub-result c = need (q (c .before .before) ⊖ lit (pos 1)) tt
+    let s = c .before .before .before in
+    reads (lit (pos 0) ⊖ size (c .before)) tt
+    ∙ ap (λ r. pos 0 -ℤ pos r) (size-is (c .before))
+    ∙ nearest-below (s .args .d) (lt-yes (N s) (lit (pos 0)) tt (c .if1 .taken))
 
 returns-2 : tie.Need-returns-2
 returns-2 c =
-    let s = c .before .before in
-    let e = q s ⊖ lit (pos 1) in
-    reads e tt ∙ rounded-down (s .args .d) (s .pre .1) (s .args .n) (le-yes (twice s) (lit (pos 0) ⊖ D s) tt (c .if2 .taken))
-
-returns-3 : tie.Need-returns-3
-returns-3 c =
-    let s = c .before .before in
-    let h = le-no (D s) (twice s) tt (c .before .if1 .left) in
-    let k = le-no (twice s) (lit (pos 0) ⊖ D s) tt (c .if2 .left) in
-    reads (q s) tt ∙ not-rounded (s .args .d) (s .pre .1) (s .args .n) h k
+    let s = c .before .before .before in
+    reads (size (c .before)) tt ∙ ap pos (size-is (c .before)) ∙ nearest-above (s .args .d) (lt-no (N s) (lit (pos 0)) tt (c .if1 .left))
 
 pub rounded-spec : {M : Type 1} → statement M
 rounded-spec =
     tie.close
-    (tie.spec
-    cast-d
-    div-q
-    rem-r
-    mul-if1
-    add-result
-    returns
-    mul-if2
-    sub-if2
-    sub-result
-    returns-2
-    returns-3)
+    (tie.spec magnitude-requires rounded-size-requires cast-size sub-result returns returns-2)
