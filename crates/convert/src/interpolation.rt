@@ -52,7 +52,7 @@ fn magnitude(n: i64) -> usize
     n as usize
 }
 
-// By quotient and remainder, since 2n may not fit. An odd quotient counts one: that decides a tie, and nothing else.
+// By quotient and remainder, since 2n may not fit. An odd quotient adds one to twice the remainder, which decides a tie and nothing else.
 fn rounded_size(n: usize, d: usize) -> usize
     requires { ⌜ (n ≤ 4860000000000000000) × (0 < d) × (d ≤ 810000000000) ⌝ }
     ensures { λ r. ⌜ (r ≡ roundSize d n) × (r ≤ 4860000000000000001) ⌝ }

@@ -23,7 +23,7 @@ use Rattle.shift.specs.Needs.{CellIn, Weighted, CornersIn}
 use Rattle.shift.specs.declared.Cell.{Cell}
 use Rattle.shift.specs.declared.Corners.{Corners}
 use Rattle.shift.specs.declared.Distances.{Distances}
-use Rattle.shift.proofs.Rounding.{nearest-raised, nearest-even}
+use Rattle.shift.proofs.Rounding.{nearest-raised, nearest-even, one-nearest-even}
 use Rattle.shift.proofs.Sums.{four-corner-within}
 use Rattle.shift.proofs.Cells.{CellOf, edges, spacings, cell-of-point, cell-in, corners-in, weighted}
 
@@ -155,10 +155,18 @@ module _ {s : Shape} (z : Extent s) {S : List ℤ} (p : Sound s S) where
     unfolding component
     shift-range = component-range (cell-in z (cell-of-point z hx hy))
 
-    -- demand 2: it is the exact fraction, rounded once
-    pub shift-rounded : let k = cellAt s x y in NearestEven (s .dlon * s .dlat) (numerator (cornersAt S (southwest (s .cols) k) (northwest (s .cols) k)) (k .distances)) (component s S x y)
+    -- equation 2's exact numerator; the denominator is the cell's area
+    abbrev pub exactNumerator : ℤ
+    exactNumerator = let k = cellAt s x y in numerator (cornersAt S (southwest (s .cols) k) (northwest (s .cols) k)) (k .distances)
+
+    -- demand 2: it is the exact fraction, rounded once, a tie to the even number
+    pub shift-rounded : NearestEven (s .dlon * s .dlat) exactNumerator (component s S x y)
     unfolding component
     shift-rounded = rw (component-is (cell-in z (cell-of-point z hx hy))) (nearest-even _ _ (mul-pos (spacings z .0) (spacings z .1)))
+
+    -- and no other number is
+    pub shift-only : {r : ℤ} → NearestEven (s .dlon * s .dlat) exactNumerator r → r ≡ component s S x y
+    shift-only h = one-nearest-even (mul-pos (spacings z .0) (spacings z .1)) h shift-rounded
 
     shift-nearest : Nearest (s .dlon * s .dlat) (surface (s .dlon) (s .dlat) (s .cols - 2) (s .rows - 2) (raisedNodes (s .cols) S) x y) (raise (component s S x y))
     unfolding component
