@@ -86,7 +86,8 @@ uint64_t dagglehurst_write(const int64_t *header, size_t header_length, const in
 uint64_t dagglehurst_check(const int64_t *header, size_t header_length, const int64_t *lat, size_t lat_length, const int64_t *lon,
                            size_t lon_length);
 
-/* Converts the NAD 27 point `north`, `east`. Writes its NAD 83 figure, latitude and longitude, to the front of `answer`. Answers 1.
+/* Converts the NAD 27 point `north`, `east`. Writes its NAD 83 figure, latitude and longitude, to the front of `answer`: 100 times the
+ * point plus the shift there, an exact fraction rounded to the nearest whole number, a tie to the even one. Answers 1.
  * Refuses 2, 5, 3, 4, 6, then 8 (place 2) where `answer` has fewer than two elements. */
 uint64_t dagglehurst_to83(const int64_t *header, size_t header_length, const int64_t *lat, size_t lat_length, const int64_t *lon,
                           size_t lon_length, int64_t north, int64_t east, int64_t *answer, size_t answer_length);

@@ -13,13 +13,9 @@ use Rattle.laws.specs.Parts.{posPart, negPart, ints, Within, abs-diff}
 use Rattle.laws.specs.Bounds.{abs-neg}
 use Rattle.laws.specs.Expr.{lit, linear, _⊕_, _⊖_, _⊛_, ⊝}
 use Rattle.bilinear.specs.Surface.{Nearest, nearest-up, nearest-down, nearest-between}
-use Rattle.shift.specs.Round.{Even, NearestEven, roundSize, nearest}
+use Rattle.shift.specs.Round.{Even, NearestEven, sizeTwice, roundSize, nearest}
 
 -- ---- the two cases of a size
-
--- twice the remainder, and one more where the quotient is odd: what is compared with the divisor
-abbrev pub sizeTwice : (d n : ℕ) → ℕ
-sizeTwice d n = 2 * (n % d) + (n / d) % 2
 
 pub size-up : (d n : ℕ) → d < sizeTwice d n → roundSize d n ≡ suc (n / d)
 unfolding roundSize

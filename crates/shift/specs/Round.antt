@@ -20,9 +20,13 @@ pub record NearestEven (d : ℕ) (z r : ℤ) : Type 0 where
 
 -- ---- how it is computed: by quotient and remainder, since twice the numerator need not fit
 
--- of a size: the quotient, raised by one where twice the remainder is above the divisor, or equal to it with an odd quotient
+-- twice the remainder, and one more where the quotient is odd
+abbrev pub sizeTwice : (d n : ℕ) → ℕ
+sizeTwice d n = 2 * (n % d) + (n / d) % 2
+
+-- of a size: the quotient, raised by one where more than half of the divisor remains, and at a tie if the quotient is odd
 unfoldable pub roundSize : (d n : ℕ) → ℕ
-roundSize d n = cond (ltb d (2 * (n % d) + (n / d) % 2)) (suc (n / d)) (n / d)
+roundSize d n = cond (ltb d (sizeTwice d n)) (suc (n / d)) (n / d)
 
 -- the nearest whole number to z / d: the size is rounded, and the sign stays
 unfoldable pub nearest : (d : ℕ) → ℤ → ℤ
