@@ -2,9 +2,9 @@
 // shift comes out; the grid has been checked.
 use shift::Corners;
 use shift::Distances;
+use sizes::magnitude;
 ghost use mathlib.Core.Path.{_≡_};
 ghost use Prim.Native.Nat.{_+_, _*_, _≤_, _<_};
-ghost use lib.IntN.{natAbs};
 ghost use Rattle.laws.specs.Parts.{Within};
 ghost use Rattle.shift.specs.Round.{roundSize, nearest};
 ghost use Rattle.shift.specs.Shift.{numerator, fourCorner};
@@ -35,27 +35,17 @@ fn rounded(n: i64, d: usize) -> i64
     requires { ⌜ (Within 4860000000000000000 n) × (0 < d) × (d ≤ 810000000000) ⌝ }
     ensures { λ r. ⌜ r ≡ nearest d n ⌝ }
 {
-    let size = rounded_size(magnitude(n), d) as i64;
+    let size = rounded_size(magnitude(n) as usize, d) as i64;
     if n < 0 {
         return -size;
     }
     size
 }
 
-fn magnitude(n: i64) -> usize
-    requires { ⌜ Within 4860000000000000000 n ⌝ }
-    ensures { λ r. ⌜ r ≡ natAbs n ⌝ }
-{
-    if n < 0 {
-        return (-n) as usize;
-    }
-    n as usize
-}
-
 // By quotient and remainder, since 2n may not fit. An odd quotient adds one to twice the remainder, which decides a tie and nothing else.
 fn rounded_size(n: usize, d: usize) -> usize
     requires { ⌜ (n ≤ 4860000000000000000) × (0 < d) × (d ≤ 810000000000) ⌝ }
-    ensures { λ r. ⌜ (r ≡ roundSize d n) × (r ≤ 4860000000000000001) ⌝ }
+    ensures { λ r. ⌜ r ≡ roundSize d n ⌝ }
 {
     let q = n / d;
     let r = n % d;

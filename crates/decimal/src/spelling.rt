@@ -1,21 +1,10 @@
 // A number written from its leading digit.
+use sizes::magnitude;
 use slices::least;
 use slices::put_byte;
-ghost use mathlib.Core.Path.{_≡_};
 ghost use Prim.Native.Nat.{_≤_};
-ghost use lib.IntN.{natAbs};
 ghost use Rattle.writing.specs.Writing.{Put};
 ghost use Rattle.decimal.specs.Spelling.{digits, spell};
-
-// The size of a number. The smallest has no negation, but the number above it has.
-pub(crate) fn magnitude(x: i64) -> u64
-    ensures { λ r. ⌜ r ≡ natAbs x ⌝ }
-{
-    if x < 0 {
-        return (0 - (x + 1)) as u64 + 1;
-    }
-    x as u64
-}
 
 fn put_digits(n: u64, room: &mut [u8]) -> usize
     ensures { λ r. ⌜ (Put (digits n) (now (room .entry)) (now (room .exit)) r) × (r ≤ 20) ⌝ }

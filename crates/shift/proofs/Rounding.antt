@@ -48,14 +48,13 @@ nearest-raised K d M R (negsuc n) p e f =
     omega (arith, ints, linear (lit (negsuc n) ⊕ lit (pos (K * d))), q, ap (λ t. d * t) g)
 
 -- a mean of numbers within `K` is within `K`
+pub size-within : (K d n : ℕ) → 0 < d → n ≤ d * K → roundSize d n ≤ K
+size-within K d n p h = nearest-between p (size-nearest d n p) 0 K (record { low = omega arith; high = h }) .high
+
 pub nearest-within : (K d : ℕ) (z : ℤ) → 0 < d → Within (d * K) z → Within K (nearest d z)
 unfolding nearest
-nearest-within K d (pos n) p h =
-    record { size = nearest-between p (size-nearest d n p) 0 K (record { low = omega arith; high = h .size }) .high }
-nearest-within K d (negsuc n) p h =
-    record {
-      size = omega (arith, abs-neg (pos (roundSize d (suc n))), nearest-between p (size-nearest d (suc n) p) 0 K (record { low = omega arith; high = h .size }) .high);
-    }
+nearest-within K d (pos n) p h = record { size = size-within K d n p (h .size) }
+nearest-within K d (negsuc n) p h = record { size = omega (arith, abs-neg (pos (roundSize d (suc n))), size-within K d (suc n) p (h .size)) }
 
 -- ---- what the rounding is, said without quotient and remainder
 

@@ -21,16 +21,10 @@ add-result : tie.Need-add-result
 add-result c = let s = c .before in omega (arith, div-le-self (s .args .n) (s .args .d))
 
 returns : tie.Need-returns
-returns c =
-    let s = c .before in
-    let e = size-up (s .args .d) (s .args .n) (omega (arith, c .if1 .taken)) in
-    (omega (arith, e), omega (arith, div-le-self (s .args .n) (s .args .d)))
+returns c = let s = c .before in omega (arith, size-up (s .args .d) (s .args .n) (omega (arith, c .if1 .taken)))
 
 returns-2 : tie.Need-returns-2
-returns-2 c =
-    let s = c .before in
-    let e = size-kept (s .args .d) (s .args .n) (omega (arith, c .if1 .left)) in
-    (omega (arith, e), omega (arith, div-le-self (s .args .n) (s .args .d)))
+returns-2 c = let s = c .before in omega (arith, size-kept (s .args .d) (s .args .n) (omega (arith, c .if1 .left)))
 
 pub rounded-size-spec : {M : Type 1} → statement M
 rounded-size-spec = tie.close (tie.spec div-q rem-r mul-if1 add-if1 add-result returns returns-2)
