@@ -41,9 +41,11 @@ enum {
     DAGGLEHURST_NODE_ROOM = 5, /* lat or lon has fewer than rows x cols elements: rows x cols */
     DAGGLEHURST_OFF_GRID = 6,  /* the NAD 27 point is off the grid: 0 */
     DAGGLEHURST_NO_POINT = 7,  /* no point of the grid has this NAD 83 figure as its answer: 0 */
-    DAGGLEHURST_ROOM = 8       /* a slice is too short: the elements needed. The slice is the room for a text (its elements are
+    DAGGLEHURST_ROOM = 8,      /* a slice is too short: the elements needed. The slice is the room for a text (its elements are
                                 * bytes), the answer, points, answers or refusals, the header that is read into, or the line or
                                 * the state of a list in pieces */
+    DAGGLEHURST_TWIST = 14     /* a cell's S1 - S2 - S3 + S4 (southwest, southeast, northwest, northeast), times 64, is above 100
+                                * times the smaller spacing: the lowest southwest node of such a cell */
 };
 
 /* The ways of dagglehurst_convert. 0 is none, so that a way that nobody has filled in is refused. */
@@ -73,28 +75,28 @@ static inline uint64_t dagglehurst_value(uint64_t reply) { return reply >> 8; }
 /* Reads a grid's text. Writes the six numbers of its header to the front of `header` and its nodes to the front of `lat` and `lon`.
  * Answers the number of nodes.
  * Refuses 8 (place 6) where `header` has fewer than six elements; then, as the text goes on: 1 for the header lines, 2, 5, for each
- * node line 1 and then 3, 1 for the end line and what follows it, and 4. */
+ * node line 1 and then 3, 1 for the end line and what follows it, 4 and 14. */
 uint64_t dagglehurst_read(const uint8_t *text, size_t text_length, int64_t *header, size_t header_length, int64_t *lat,
                           size_t lat_length, int64_t *lon, size_t lon_length);
 
 /* Writes a grid's text to the front of `room`. Answers the number of bytes. There is one text for each grid.
- * Refuses 2, 5, 3, 4, then 8 (place: the bytes needed). */
+ * Refuses 2, 5, 3, 4, 14, then 8 (place: the bytes needed). */
 uint64_t dagglehurst_write(const int64_t *header, size_t header_length, const int64_t *lat, size_t lat_length, const int64_t *lon,
                            size_t lon_length, uint8_t *room, size_t room_length);
 
-/* Checks a grid. Answers the number of nodes. Refuses 2, 5, 3, 4. */
+/* Checks a grid. Answers the number of nodes. Refuses 2, 5, 3, 4, 14. */
 uint64_t dagglehurst_check(const int64_t *header, size_t header_length, const int64_t *lat, size_t lat_length, const int64_t *lon,
                            size_t lon_length);
 
 /* Converts the NAD 27 point `north`, `east`. Writes its NAD 83 figure, latitude and longitude, to the front of `answer`: 100 times the
  * point plus the shift there, an exact fraction rounded to the nearest whole number, a tie to the even one. Answers 1.
- * Refuses 2, 5, 3, 4, 6, then 8 (place 2) where `answer` has fewer than two elements. */
+ * Refuses 2, 5, 3, 4, 14, 6, then 8 (place 2) where `answer` has fewer than two elements. */
 uint64_t dagglehurst_to83(const int64_t *header, size_t header_length, const int64_t *lat, size_t lat_length, const int64_t *lon,
                           size_t lon_length, int64_t north, int64_t east, int64_t *answer, size_t answer_length);
 
 /* Takes the NAD 83 figure `north`, `east` back. Writes the one NAD 27 point of the grid whose answer it is, latitude and longitude,
  * to the front of `answer`. Answers 1.
- * Refuses 2, 5, 3, 4, 7, then 8 (place 2) where `answer` has fewer than two elements. */
+ * Refuses 2, 5, 3, 4, 14, 7, then 8 (place 2) where `answer` has fewer than two elements. */
 uint64_t dagglehurst_to27(const int64_t *header, size_t header_length, const int64_t *lat, size_t lat_length, const int64_t *lon,
                           size_t lon_length, int64_t north, int64_t east, int64_t *answer, size_t answer_length);
 
@@ -102,7 +104,7 @@ uint64_t dagglehurst_to27(const int64_t *header, size_t header_length, const int
  * the latitude points[2k] and longitude points[2k + 1]. Where it has an answer, writes it to answers[2k] and answers[2k + 1], and 0
  * to refusals[k]; else leaves both answers as they were, and writes the number of its refusal to refusals[k]: 6 or 7, or 1 for a way
  * that does not exist. Answers n.
- * Refuses 2, 5, 3, 4, with no requests too; then 8: with place 2n where `points` or `answers` has fewer than 2n elements, with n
+ * Refuses 2, 5, 3, 4, 14, with no requests too; then 8: with place 2n where `points` or `answers` has fewer than 2n elements, with n
  * where `refusals` has fewer than n. Numbers of `points` behind the first 2n are not looked at. */
 uint64_t dagglehurst_convert(const int64_t *header, size_t header_length, const int64_t *lat, size_t lat_length, const int64_t *lon,
                              size_t lon_length, const uint8_t *ways, size_t ways_length, const int64_t *points,
@@ -111,7 +113,7 @@ uint64_t dagglehurst_convert(const int64_t *header, size_t header_length, const 
 
 /* Runs the list over request lines (`to83=LAT,LON` or `to27=LAT,LON`, each ended by a newline). Writes the whole list, from `sheet=`
  * to `done=`, to the front of `room`. Answers the number of bytes.
- * Refuses 2, 5, 3, 4, then 8 (place: the bytes needed). */
+ * Refuses 2, 5, 3, 4, 14, then 8 (place: the bytes needed). */
 uint64_t dagglehurst_list(const int64_t *header, size_t header_length, const int64_t *lat, size_t lat_length, const int64_t *lon,
                           size_t lon_length, const uint8_t *requests, size_t requests_length, uint8_t *room, size_t room_length);
 
@@ -143,14 +145,14 @@ uint64_t dagglehurst_list(const int64_t *header, size_t header_length, const int
  */
 
 /* Begins a list. Writes its first line, `sheet=` and the number of nodes, to the front of `room`. Answers the number of bytes.
- * Refuses 2, 5, 3, 4, then 8 (place: the bytes needed). */
+ * Refuses 2, 5, 3, 4, 14, then 8 (place: the bytes needed). */
 uint64_t dagglehurst_begin(const int64_t *header, size_t header_length, const int64_t *lat, size_t lat_length, const int64_t *lon,
                            size_t lon_length, uint8_t *room, size_t room_length);
 
 /* Feeds the next piece of the requests to a list. Writes the replies to the lines that end in it to the front of `room`, the line
  * that is then under way to the front of `line` (bytes behind it stay), and its three numbers to the front of `state`. Answers the
  * number of bytes written to `room`.
- * Refuses 2, 5, 3, 4, for an empty piece too: every call checks the grid; then 8, with place 65 where `line` has fewer than 65
+ * Refuses 2, 5, 3, 4, 14, for an empty piece too: every call checks the grid; then 8, with place 65 where `line` has fewer than 65
  * bytes, 3 where `state` has fewer than three numbers, and the bytes needed where `room` is too short. A piece that was refused can
  * be fed again. */
 uint64_t dagglehurst_feed(const int64_t *header, size_t header_length, const int64_t *lat, size_t lat_length, const int64_t *lon,

@@ -392,9 +392,10 @@ static void test_headers(void) {
         }
 }
 
-/* ---- Nodes beyond the range, and nodes that are too steep ---- */
+/* ---- Nodes beyond the range, nodes that are too steep, and a cell that is twisted too far ---- */
 
-/* With a spacing of 450,000 two neighbours differ by 2,812,500 at most. A refusal of 0: the grid passes. */
+/* With a spacing of 450,000 two neighbours differ by 2,812,500 at most, and the southwest and northeast shift less the other two come to
+ * 703,125 at most, of which sheet P has 2,000 in latitude and 1,000 in longitude. A refusal of 0: the grid passes. */
 static const struct {
     int slice, node;
     int64_t shift;
@@ -404,9 +405,11 @@ static const struct {
     {LAT, 0, INT64_MIN, 3, 0}, {LAT, 0, INT64_MAX, 3, 0}, {LON, 3, INT64_MIN, 3, 3}, {LON, 3, INT64_MAX, 3, 3},
     {LAT, 1, 6000001, 3, 1}, {LAT, 2, -6000001, 3, 2}, {LON, 1, 6000001, 3, 1}, {LON, 0, -6000001, 3, 0},
     {LAT, 1, 6000000, 4, 0}, {LON, 3, -6000000, 4, 1},
-    {LAT, 0, 51000 + 2812500, 0, 4}, {LAT, 0, 51000 + 2812501, 4, 0},
+    {LAT, 0, 51000 + 2812500, 14, 0}, {LAT, 0, 51000 + 2812501, 4, 0},
     {LAT, 3, 57000 - 2812501, 4, 1}, {LON, 3, 49000 + 2812501, 4, 1},
-    {LON, 2, 49000 - 2812500, 0, 4}, {LON, 2, 49000 - 2812501, 4, 2},
+    {LON, 2, 49000 - 2812500, 14, 0}, {LON, 2, 49000 - 2812501, 4, 2},
+    {LAT, 0, 53000 + 701125, 0, 4}, {LAT, 0, 53000 + 701126, 14, 0}, {LAT, 1, 57000 + 705125, 0, 4}, {LAT, 1, 57000 + 705126, 14, 0},
+    {LON, 2, 41000 - 702125, 0, 4}, {LON, 2, 41000 - 702126, 14, 0}, {LON, 3, 49000 - 704125, 0, 4}, {LON, 3, 49000 - 704126, 14, 0},
 };
 
 static void test_nodes(void) {
@@ -490,11 +493,13 @@ static const struct {
     {"node=53000,42000", "node=53000,-6000001", 3, 0}, {"node=53000,42000", "node=6000001,x", 1, 9},
     {"node=51000,41000", "node=51000,99999999999", 3, 2}, {"node=51000,41000\n", "", 1, 12},
     {"node=53000,42000", "node=2869501,42000", 4, 0}, {"node=51000,41000", "node=51000,6000000", 4, 0},
-    {"node=57000,49000\nend", "node=57000,-2763501\nend", 4, 1}, {"end=4", "node=0,0\nend=4", 1, 13},
+    {"node=57000,49000\nend", "node=57000,-2763501\nend", 4, 1}, {"node=53000,42000", "node=754126,42000", 14, 0},
+    {"node=51000,41000", "node=51000,-661126", 14, 0}, {"end=4", "node=0,0\nend=4", 1, 13},
     {"end=4", "end=5", 1, 13}, {"end=4", "end=04", 1, 13}, {"end=4", "end=4 ", 1, 13}, {"end=4\n", "", 1, 13}, {"end=4\n", "end=4", 1, 13},
     {"end=4\n", "end=4\n\n", 1, 14}, {"end=4\n", "end=4\nend=4\n", 1, 14},
-    /* form stands before steepness, and a node's range before a later line's form */
-    {"node=57000,49000\nend=4", "node=57000,-2763501\nend=5", 1, 13}, {"57000,49000\nnode=51000", "6000001,0\nnod=51000", 3, 1},
+    /* form stands before steepness and twist, and a node's range before a later line's form */
+    {"node=57000,49000\nend=4", "node=57000,-2763501\nend=5", 1, 13}, {"node=57000,49000\nend=4", "node=57000,-655126\nend=5", 1, 13},
+    {"57000,49000\nnode=51000", "6000001,0\nnod=51000", 3, 1},
 };
 
 static void expect_text(const char *damaged, size_t length, const char *what, unsigned refusal, uint64_t place) {
@@ -540,13 +545,15 @@ static void test_every_byte(void) {
 /* A grid that fails one check more each time, and no room for what the call writes. */
 static void expect_order(struct call call) {
     static const int64_t no_rows[DAGGLEHURST_HEADER] = {0, 0, 1000, 1000, 0, 2};
-    static const int64_t beyond[NODES] = {0, 0, 0, 6000001}, steep[NODES] = {0, 2812501, 0, 0};
+    static const int64_t beyond[NODES] = {0, 0, 0, 6000001}, steep[NODES] = {0, 2812501, 0, 0}, twisted[NODES] = {703126, 0, 0, 0};
     call.slices[OUTPUT].length = 0;
     call.slices[REFUSALS].length = 0;
     call.slices[LINE].length = 0;
     call.slices[STATE].length = 0;
+    call.slices[LON] = (struct slice)READS(twisted, NODES);
+    expect_refusal(call, "twisted, and no room", 14, 0);
     call.slices[LAT] = (struct slice)READS(steep, NODES);
-    expect_refusal(call, "steep, and no room", 4, 0);
+    expect_refusal(call, "steep, and twisted", 4, 0);
     call.slices[LON] = (struct slice)READS(beyond, NODES);
     expect_refusal(call, "beyond the range, and steep", 3, 3);
     call.slices[LAT].length = NODES - 1;

@@ -34,7 +34,7 @@ fn flat(header: Vec<i64>, nodes: usize) -> Plain {
     Plain { header, lat: vec![250; nodes], lon: vec![-250; nodes] }
 }
 
-/// Grids with some nodes disturbed, so that they are out of range, too steep, or just pass.
+/// Grids with some nodes disturbed, so that they are out of range, too steep, twisted too far, or just pass.
 pub fn disturbed(bench: &mut Bench, random: &mut Random, count: usize) {
     for _ in 0..count {
         let shape = grids::mostly_small_shape(random);
@@ -64,14 +64,18 @@ pub fn disturbed_and_short(bench: &mut Bench, random: &mut Random, count: usize)
     }
 }
 
-/// On one 3 x 3 grid: each node, component and direction at the steepest and one beyond it, and each node at the end of its range
-/// and one beyond it.
+/// On 3 x 3 grids of two kinds: each node, component and direction at the steepest, the farthest twisted and one beyond it, and
+/// each node at the end of its range and one beyond it.
 pub fn each_node(bench: &mut Bench, random: &mut Random) {
-    let (dlat, dlon) = (1_600, 3_201);
-    let steps = [100 * dlat / 16, 100 * dlon / 16];
-    let header = vec![0, 0, dlat, dlon, 3, 3];
+    for [dlat, dlon] in [[1_600, 3_201], [3_201, 1_601]] {
+        each_node_of(bench, random, vec![0, 0, dlat, dlon, 3, 3]);
+    }
+}
+
+fn each_node_of(bench: &mut Bench, random: &mut Random, header: Vec<i64>) {
+    let limits = [100 * header[2] / 16, 100 * header[3] / 16, grids::twist_limit(&header)];
     for node in 0..9 {
-        for size in steps.into_iter().flat_map(|step| [step, step + 1]) {
+        for size in limits.into_iter().flat_map(|limit| [limit, limit + 1]) {
             one_node(bench, random, &header, 0, node, size);
             one_node(bench, random, &header, 0, node, -size);
         }
@@ -97,6 +101,16 @@ pub fn range_before_steepness(bench: &mut Bench, random: &mut Random) {
         let mut plain = Plain { header: vec![0, 0, 1_000, 1_000, 3, 3], lat: vec![0; 9], lon: vec![0; 9] };
         plain.lat[steep] = 6_251;
         plain.lon[far] = SHIFT_LIMIT + 1;
+        everywhere(bench, random, &plain);
+    }
+}
+
+/// A node too steep with a cell twisted too far, in every order of the two: steepness is judged first, of all nodes.
+pub fn steepness_before_twist(bench: &mut Bench, random: &mut Random) {
+    for (steep, twisted) in (0..9).flat_map(|steep| (0..9).map(move |twisted| (steep, twisted))) {
+        let mut plain = Plain { header: vec![0, 0, 1_000, 1_000, 3, 3], lat: vec![0; 9], lon: vec![0; 9] };
+        plain.lat[steep] = 6_251;
+        plain.lon[twisted] = 1_563;
         everywhere(bench, random, &plain);
     }
 }

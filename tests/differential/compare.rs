@@ -28,8 +28,12 @@ impl Case {
 
     /// The grid, if it passed the checks.
     pub fn grid(&self) -> Reply<Grid<'_>> {
+        self.verdict.map(|_| self.unjudged())
+    }
+
+    fn unjudged(&self) -> Grid<'_> {
         let GridMemory { header, lat, lon } = &self.memory;
-        self.verdict.map(|_| Grid::unjudged(header.original(), lat.original(), lon.original()))
+        Grid::unjudged(header.original(), lat.original(), lon.original())
     }
 
     pub fn unchanged(&self) -> bool {
@@ -45,17 +49,19 @@ impl Case {
 }
 
 /// Nothing to convert, over a grid that fails a check: refused all the same.
-const EMPTY_BATCHES: [(u8, &str); 4] = [
+const EMPTY_BATCHES: [(u8, &str); 5] = [
     (2, "batch: no requests, refused 2"),
     (5, "batch: no requests, refused 5"),
     (3, "batch: no requests, refused 3"),
     (4, "batch: no requests, refused 4"),
+    (14, "batch: no requests, refused 14"),
 ];
-const EMPTY_LISTS: [(u8, &str); 4] = [
+const EMPTY_LISTS: [(u8, &str); 5] = [
     (2, "list: no lines, refused 2"),
     (5, "list: no lines, refused 5"),
     (3, "list: no lines, refused 3"),
     (4, "list: no lines, refused 4"),
+    (14, "list: no lines, refused 14"),
 ];
 
 pub struct Bench {
@@ -136,6 +142,27 @@ impl Bench {
         let got = library::check(&case.memory);
         self.reply(call, &case.verdict, got, || case.account());
         self.untouched(call, case.unchanged(), || case.account());
+        self.mark_twists(case);
+    }
+
+    /// Notes how far the cells are twisted, where the checks before 4 have passed.
+    fn mark_twists(&mut self, case: &Case) {
+        let grid = case.unjudged();
+        let place = match case.verdict {
+            Ok(_) => grid.nodes(),
+            Err(Refusal { number: 4 | 14, place }) => place as usize,
+            Err(_) => return,
+        };
+        let (limit, last_cell) = (100 * grid.dlat.min(grid.dlon) / 64, grid.nodes() - grid.cols as usize - 2);
+        let greatest = |component: usize| grid.twists().map(|(_, twists)| twists[component].abs()).max().unwrap_or(0);
+        let (lat, lon) = (greatest(0), greatest(1));
+        let (passed, steep, twisted) = (place == grid.nodes(), grid.steep_node().is_some(), grid.twisted_node());
+        let marks = &mut self.coverage;
+        marks.mark_if(passed && lat == limit, "grid: a latitude twist at its limit");
+        marks.mark_if(passed && lon == limit, "grid: a longitude twist at its limit");
+        marks.mark_if(!passed && !steep && lat.max(lon) == limit + 1, "grid: a twist one beyond its limit");
+        marks.mark_if(!steep && last_cell > 0 && twisted == Some(last_cell), "grid: a twist in the last column and row alone");
+        marks.mark_if(steep && twisted.is_some_and(|node| node < place), "grid: too steep behind a twisted cell");
     }
 
     /// Compares the writing of a grid's text, whose length is the reply's value. The caller passes the text that is expected.
@@ -314,7 +341,7 @@ impl Bench {
     }
 
     /// Marks the check that a grid failed.
-    pub fn mark_refused(&mut self, expected: &Reply<u64>, checks: [(u8, &'static str); 4]) {
+    pub fn mark_refused(&mut self, expected: &Reply<u64>, checks: [(u8, &'static str); 5]) {
         for (number, mark) in checks {
             self.coverage.mark_if(expected.is_err_and(|refusal| refusal.number == number), mark);
         }

@@ -25,25 +25,28 @@ struct Known {
 
 const CALLS: usize = 10;
 
+/// The largest number of a refusal.
+const LARGEST: usize = 14;
+
 const KNOWN: [Known; CALLS] = [
-    Known { name: "check", refusals: &[2, 3, 4, 5], slices: &["header", "lat", "lon"] },
-    Known { name: "read", refusals: &[1, 2, 3, 4, 5, 8], slices: &["header", "lat", "lon", "text"] },
-    Known { name: "write", refusals: &[2, 3, 4, 5, 8], slices: &["header", "lat", "lon", "room"] },
-    Known { name: "to83", refusals: &[2, 3, 4, 5, 6, 8], slices: &["header", "lat", "lon", "answer"] },
-    Known { name: "to27", refusals: &[2, 3, 4, 5, 7, 8], slices: &["header", "lat", "lon", "answer"] },
+    Known { name: "check", refusals: &[2, 3, 4, 5, 14], slices: &["header", "lat", "lon"] },
+    Known { name: "read", refusals: &[1, 2, 3, 4, 5, 8, 14], slices: &["header", "lat", "lon", "text"] },
+    Known { name: "write", refusals: &[2, 3, 4, 5, 8, 14], slices: &["header", "lat", "lon", "room"] },
+    Known { name: "to83", refusals: &[2, 3, 4, 5, 6, 8, 14], slices: &["header", "lat", "lon", "answer"] },
+    Known { name: "to27", refusals: &[2, 3, 4, 5, 7, 8, 14], slices: &["header", "lat", "lon", "answer"] },
     Known {
         name: "convert",
-        refusals: &[2, 3, 4, 5, 8],
+        refusals: &[2, 3, 4, 5, 8, 14],
         slices: &["header", "lat", "lon", "ways", "points", "answers", "refusals"],
     },
-    Known { name: "list", refusals: &[2, 3, 4, 5, 8], slices: &["header", "lat", "lon", "requests", "room"] },
-    Known { name: "begin", refusals: &[2, 3, 4, 5, 8], slices: &["header", "lat", "lon", "room"] },
-    Known { name: "feed", refusals: &[2, 3, 4, 5, 8], slices: &["header", "lat", "lon", "line", "state", "piece", "room"] },
+    Known { name: "list", refusals: &[2, 3, 4, 5, 8, 14], slices: &["header", "lat", "lon", "requests", "room"] },
+    Known { name: "begin", refusals: &[2, 3, 4, 5, 8, 14], slices: &["header", "lat", "lon", "room"] },
+    Known { name: "feed", refusals: &[2, 3, 4, 5, 8, 14], slices: &["header", "lat", "lon", "line", "state", "piece", "room"] },
     Known { name: "finish", refusals: &[8], slices: &["line", "state", "room"] },
 ];
 
 /// Everything else that a run has to reach.
-const MARKS: [&str; 88] = [
+const MARKS: [&str; 97] = [
     "point: tie toward zero, positive latitude shift",
     "point: tie toward zero, negative latitude shift",
     "point: tie toward zero, positive longitude shift",
@@ -86,6 +89,7 @@ const MARKS: [&str; 88] = [
     "batch: no requests, refused 5",
     "batch: no requests, refused 3",
     "batch: no requests, refused 4",
+    "batch: no requests, refused 14",
     "list: line refused 1",
     "list: line refused 6",
     "list: line refused 7",
@@ -94,6 +98,7 @@ const MARKS: [&str; 88] = [
     "list: no lines, refused 5",
     "list: no lines, refused 3",
     "list: no lines, refused 4",
+    "list: no lines, refused 14",
     "list: last line without newline",
     "list: line of 64 bytes",
     "list: line of 65 bytes",
@@ -110,10 +115,12 @@ const MARKS: [&str; 88] = [
     "pieces: an empty piece, refused 5",
     "pieces: an empty piece, refused 3",
     "pieces: an empty piece, refused 4",
+    "pieces: an empty piece, refused 14",
     "pieces: a later piece, refused 2",
     "pieces: a later piece, refused 5",
     "pieces: a later piece, refused 3",
     "pieces: a later piece, refused 4",
+    "pieces: a later piece, refused 14",
     "pieces: the line too short",
     "pieces: the numbers too few",
     "pieces: the line and the numbers too short",
@@ -132,10 +139,15 @@ const MARKS: [&str; 88] = [
     "grid: 2,048 nodes",
     "grid: every tiny point mapped",
     "grid: the paper's sheet made too steep",
+    "grid: a latitude twist at its limit",
+    "grid: a longitude twist at its limit",
+    "grid: a twist one beyond its limit",
+    "grid: a twist in the last column and row alone",
+    "grid: too steep behind a twisted cell",
 ];
 
 pub struct Coverage {
-    refusals: [[u64; 9]; CALLS],
+    refusals: [[u64; LARGEST + 1]; CALLS],
     rules: [[u64; 10]; CALLS],
     answers: [u64; CALLS],
     nulls: [[u64; 7]; CALLS],
@@ -145,7 +157,7 @@ pub struct Coverage {
 impl Coverage {
     pub fn new() -> Coverage {
         let marks = MARKS.iter().map(|&mark| (mark, 0)).collect();
-        Coverage { refusals: [[0; 9]; CALLS], rules: [[0; 10]; CALLS], answers: [0; CALLS], nulls: [[0; 7]; CALLS], marks }
+        Coverage { refusals: [[0; LARGEST + 1]; CALLS], rules: [[0; 10]; CALLS], answers: [0; CALLS], nulls: [[0; 7]; CALLS], marks }
     }
 
     pub fn answered(&mut self, call: Call) {

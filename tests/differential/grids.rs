@@ -105,11 +105,20 @@ fn style(random: &mut Random) -> Style {
     }
 }
 
-/// One component's shifts. Each node is chosen from the span that its west and south neighbours allow. That span is never empty:
-/// the two neighbours differ from their common southwest node by at most one step each.
+/// One component's shifts, from the first attempt that has room for every node. A constant one always has.
 fn component(random: &mut Random, header: &[i64]) -> Vec<i64> {
+    loop {
+        if let Some(shifts) = attempt(random, header) {
+            return shifts;
+        }
+    }
+}
+
+/// Each node is chosen from the span that its west and south neighbours and its cell allow. Without twist it would be as far from
+/// each neighbour as the neighbour opposite is from their common southwest node, so that only the range can leave no span.
+fn attempt(random: &mut Random, header: &[i64]) -> Option<Vec<i64>> {
     let style = style(random);
-    let (north_step, east_step) = (100 * header[2] / 16, 100 * header[3] / 16);
+    let (north_step, east_step, twist) = (100 * header[2] / 16, 100 * header[3] / 16, twist_limit(header));
     let (rows, cols) = (header[4] as usize, header[5] as usize);
     let base = random.pick(&[0, 0, 1, -1, SHIFT_LIMIT, -SHIFT_LIMIT, 42_000, -53_000]);
     let base = if random.once_in(3) { random.between(-SHIFT_LIMIT, SHIFT_LIMIT) } else { base };
@@ -124,9 +133,22 @@ fn component(random: &mut Random, header: &[i64]) -> Vec<i64> {
             low = low.max(shifts[node - cols] - north_step);
             high = high.min(shifts[node - cols] + north_step);
         }
+        if node % cols > 0 && node >= cols {
+            let flat = shifts[node - 1] + shifts[node - cols] - shifts[node - cols - 1];
+            low = low.max(flat - twist);
+            high = high.min(flat + twist);
+        }
+        if low > high {
+            return None;
+        }
         shifts.push(if node == 0 { base } else { choose(random, style, base, low, high) });
     }
-    shifts
+    Some(shifts)
+}
+
+/// The greatest size of a cell's S1 - S2 - S3 + S4.
+pub fn twist_limit(header: &[i64]) -> i64 {
+    100 * header[2].min(header[3]) / 64
 }
 
 fn choose(random: &mut Random, style: Style, base: i64, low: i64, high: i64) -> i64 {
@@ -223,15 +245,17 @@ pub fn odd_header(random: &mut Random) -> Vec<i64> {
     odd
 }
 
-/// Changes one to three nodes so that a shift may be out of range or a node too steep.
+/// Changes one to three nodes so that a shift may be out of range, a node too steep or a cell twisted too far.
 pub fn disturb(random: &mut Random, grid: &mut Plain) {
+    let twist = twist_limit(&grid.header);
     for _ in 0..=random.below(3) {
         let node = random.below(grid.nodes());
         let component = if random.once_in(2) { &mut grid.lat } else { &mut grid.lon };
-        component[node] = match random.below(5) {
+        component[node] = match random.below(6) {
             0 => random.pick(&[-1, 1]) * (SHIFT_LIMIT + random.between(0, 1)),
             1 => random.absurd(),
             2 => random.between(-SHIFT_LIMIT, SHIFT_LIMIT),
+            3 => component[node].saturating_add(random.pick(&[-1, 1]) * (twist + random.between(0, 1))),
             _ => component[node].saturating_add(random.between(-1, 1)),
         };
     }

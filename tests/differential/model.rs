@@ -54,6 +54,9 @@ pub fn check<'a>(header: &[i64], lat: &'a [i64], lon: &'a [i64]) -> Reply<Grid<'
     if let Some(node) = grid.steep_node() {
         return refuse(4, node);
     }
+    if let Some(node) = grid.twisted_node() {
+        return refuse(14, node);
+    }
     Ok(grid)
 }
 
@@ -111,6 +114,23 @@ impl<'a> Grid<'a> {
             let has_north = k + cols < nodes;
             (has_east && steep(k, k + 1, self.dlon)) || (has_north && steep(k, k + cols, self.dlat))
         })
+    }
+
+    /// Each cell's southwest node, in rising order, with S1 - S2 - S3 + S4 of the latitude and of the longitude shifts.
+    pub fn twists(self) -> impl Iterator<Item = (usize, [i128; 2])> + 'a {
+        let (rows, cols) = (self.rows as usize, self.cols as usize);
+        let cells = (0..rows - 1).flat_map(move |row| (0..cols - 1).map(move |col| [row, col]));
+        cells.map(move |[row, col]| {
+            let node = |up: usize, right: usize| (row + up) * cols + col + right;
+            let corners = |shifts: &[i64]| [node(0, 0), node(0, 1), node(1, 0), node(1, 1)].map(|k| i128::from(shifts[k]));
+            (node(0, 0), [self.lat, self.lon].map(corners).map(|[s1, s2, s3, s4]| s1 - s2 - s3 + s4))
+        })
+    }
+
+    /// The lowest southwest node of a cell with a component whose twist, times 64, is above 100 times the smaller spacing.
+    pub fn twisted_node(&self) -> Option<usize> {
+        let too_far = |twist: &i128| twist.abs() * 64 > 100 * self.dlat.min(self.dlon);
+        self.twists().find(|(_, twists)| twists.iter().any(too_far)).map(|(node, _)| node)
     }
 
     /// The shift of one component at a point on the grid, as numerator and denominator (USGS Bulletin 1875-B, equation 2).

@@ -45,17 +45,19 @@ fn sitting(list: &ListMemory) -> Reply<Sitting> {
 }
 
 /// Nothing is fed, over a grid that fails a check: refused all the same.
-const EMPTY_PIECES: [(u8, &str); 4] = [
+const EMPTY_PIECES: [(u8, &str); 5] = [
     (2, "pieces: an empty piece, refused 2"),
     (5, "pieces: an empty piece, refused 5"),
     (3, "pieces: an empty piece, refused 3"),
     (4, "pieces: an empty piece, refused 4"),
+    (14, "pieces: an empty piece, refused 14"),
 ];
-const LATER_PIECES: [(u8, &str); 4] = [
+const LATER_PIECES: [(u8, &str); 5] = [
     (2, "pieces: a later piece, refused 2"),
     (5, "pieces: a later piece, refused 5"),
     (3, "pieces: a later piece, refused 3"),
     (4, "pieces: a later piece, refused 4"),
+    (14, "pieces: a later piece, refused 14"),
 ];
 
 /// Room for a text: its bytes, or a refusal.
@@ -264,6 +266,7 @@ pub fn spoilt_behind_a_piece(bench: &mut Bench) {
         Plain { lat: vec![0, 1, 0], ..q.clone() },
         Plain { lon: vec![0, SHIFT_LIMIT + 1, 0, -1], ..q.clone() },
         Plain { lon: vec![0, 90_000, 0, 90_000], ..q.clone() },
+        Plain { lat: vec![0, 1_563, 0, 0], ..q.clone() },
     ];
     for ((number, mark), Plain { header, lat, lon }) in LATER_PIECES.into_iter().zip(&spoilt) {
         let case = Case::of(header, lat, lon);

@@ -40,6 +40,7 @@ fn fixed(bench: &mut Bench, random: &mut Random) {
     broken::header_edges(bench, random);
     broken::each_node(bench, random);
     broken::range_before_steepness(bench, random);
+    broken::steepness_before_twist(bench, random);
     lists::totals(bench);
     pieces::spoilt_behind_a_piece(bench);
     for plain in [grids::paper_p(), grids::paper_q()] {

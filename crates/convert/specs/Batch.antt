@@ -62,7 +62,7 @@ roomFor n points answers refusals =
     refuseIf (ltb (length points) (2 * n) || ltb (length answers) (2 * n)) 8 (2 * n)
     (refuseIf (ltb (length refusals) n) 8 n (answered n))
 
--- 2, 5, 3, 4, then 8; else the number of requests
+-- 2, 5, 3, 4, 14, then 8; else the number of requests
 unfoldable pub converting : Grid → (ways : List ℕ) → (points answers : List ℤ) → (refusals : List ℕ) → Outcome ℕ
 converting g ways points answers refusals = andThen (verdict g) (roomFor (length ways) points answers refusals)
 

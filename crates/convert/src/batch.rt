@@ -38,7 +38,7 @@ pub(crate) enum Converted {
     Refused(Refusal),
 }
 
-// Converts a request for each way, its two numbers one after the other in `points`: 2, 5, 3, 4, then 8. A request that is refused
+// Converts a request for each way, its two numbers one after the other in `points`: 2, 5, 3, 4, 14, then 8. A request that is refused
 // leaves its place in the answers as it was; a way that does not exist is refused 1.
 pub fn convert_batch<'a>(
     h: Header,

@@ -31,7 +31,7 @@ pub enum Answer27 {
     Refused(Refusal),
 }
 
-// A NAD 27 point's NAD 83 answer: 2, 5, 3, 4, then 6.
+// A NAD 27 point's NAD 83 answer: 2, 5, 3, 4, 14, then 6.
 pub fn to83<'a>(h: Header, lat: &'a [i64], lon: &'a [i64], p: Point27) -> Answer83
     ensures { λ r. ⌜ outcome83 r ≡ to83 (gridOf h (now (lat .entry)) (now (lon .entry))) p ⌝ }
 {
@@ -41,7 +41,7 @@ pub fn to83<'a>(h: Header, lat: &'a [i64], lon: &'a [i64], p: Point27) -> Answer
     }
 }
 
-// The NAD 27 point on the grid whose answer is the figure: 2, 5, 3, 4, then 7.
+// The NAD 27 point on the grid whose answer is the figure: 2, 5, 3, 4, 14, then 7.
 pub fn to27<'a>(h: Header, lat: &'a [i64], lon: &'a [i64], f: Point83) -> Answer27
     ensures { λ r. ⌜ outcome27 r ≡ to27 (gridOf h (now (lat .entry)) (now (lon .entry))) f ⌝ }
 {

@@ -31,7 +31,7 @@ stateOf s = pos (length (heldLine s)) ∷ s .totals .answered ∷ s .totals .ref
 unfoldable pub lent : (line : List ℕ) → (state : List ℤ) → Outcome ℕ → Outcome ℕ
 lent line state o = refuseIf (ltb (length line) 65) 8 65 (refuseIf (ltb (length state) 3) 8 3 o)
 
--- 2, 5, 3, 4, then 8 for the list's memory, then 8 for the room
+-- 2, 5, 3, 4, 14, then 8 for the list's memory, then 8 for the room
 unfoldable pub feedingIn : Grid → (line : List ℕ) → (state : List ℤ) → (piece room : List ℕ) → Outcome ℕ
 feedingIn g line state piece room = andThen (verdict g) (lent line state (inRoom (fedText g (listIn line state) piece) room))
 

@@ -68,7 +68,7 @@ pub extern "C" fn dagglehurst_feed<'a>(
     }
 }
 
-// The list's memory has too few elements: 2, 5, 3, 4, then 8.
+// The list's memory has too few elements: 2, 5, 3, 4, 14, then 8.
 fn lacking<'a>(h: Header, lat: &'a [i64], lon: &'a [i64], needed: usize) -> u64
     ensures { λ r. ⌜ r ≡ reply (andThen (verdict (gridOf h (now (lat .entry)) (now (lon .entry)))) (refused 8 needed)) ⌝ }
 {

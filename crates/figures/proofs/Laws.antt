@@ -15,7 +15,7 @@ pub both-answered : {A B : Type 0} (o : Outcome A) (p : Outcome B) {b : B} → a
 both-answered (answered a) p e = ((a, refl), e)
 both-answered (refused n k) p e = let z : _≡_ {A = ℕ} 0 1 = cc in absurd (omega arith)
 
--- "2, 5, 3, 4, then ..": the first refusal is the outcome's, and what passes leaves it to the second
+-- "2, 5, 3, 4, 14, then ..": the first refusal is the outcome's, and what passes leaves it to the second
 pub refused-first : {A B : Type 0} {n k : ℕ} {o : Outcome A} (p : Outcome B) → refused n k ≡ o → refused n k ≡ andThen o p
 refused-first p e = rw (← e)
 
@@ -48,3 +48,4 @@ number-small Refusal.OffGrid = omega arith
 number-small Refusal.NoPoint = omega arith
 number-small (Refusal.Room needed) = omega arith
 number-small (Refusal.File limit) = omega arith
+number-small (Refusal.Twist node) = omega arith

@@ -1,4 +1,4 @@
--- The number and the place of each refusal (document 01, "When the answer is no").
+-- The number and the place of each refusal (document 01, "When the answer is no"; 14: document 02, request 11).
 use Prim.Native.Nat.{ℕ}
 use Rattle.figures.specs.declared.Refusal.{Refusal}
 
@@ -12,6 +12,7 @@ numberOf Refusal.OffGrid = 6
 numberOf Refusal.NoPoint = 7
 numberOf (Refusal.Room needed) = 8
 numberOf (Refusal.File limit) = 9
+numberOf (Refusal.Twist node) = 14
 
 abbrev pub placeOf : Refusal → ℕ
 placeOf (Refusal.Form line) = line
@@ -23,3 +24,4 @@ placeOf Refusal.OffGrid = 0
 placeOf Refusal.NoPoint = 0
 placeOf (Refusal.Room needed) = needed
 placeOf (Refusal.File limit) = limit
+placeOf (Refusal.Twist node) = node

@@ -72,7 +72,8 @@ fn same_pair(a: i64, b: i64, c: i64, d: i64) -> bool
     b == d
 }
 
-// Why the answer is no: one variant for each row of document 01's table, with the place where that varies.
+// Why the answer is no: one variant for each row of document 01's table, and for each refusal that a request of document 02 adds, with the
+// place where that varies.
 pub enum Refusal {
     // 1: the line that is missing, extra or not of its form, from 1.
     Form(usize),
@@ -92,6 +93,8 @@ pub enum Refusal {
     Room(usize),
     // 9: 0 where the grid file can't be read, or the limit that it is longer than.
     File(usize),
+    // 14: the lowest southwest node of a cell that is twisted too far.
+    Twist(usize),
 }
 
 impl Refusal {
@@ -108,6 +111,7 @@ impl Refusal {
             Refusal::NoPoint => 7,
             Refusal::Room(_) => 8,
             Refusal::File(_) => 9,
+            Refusal::Twist(_) => 14,
         }
     }
 
@@ -124,6 +128,7 @@ impl Refusal {
             Refusal::NoPoint => 0,
             Refusal::Room(needed) => needed,
             Refusal::File(limit) => limit,
+            Refusal::Twist(node) => node,
         }
     }
 }

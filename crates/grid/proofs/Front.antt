@@ -1,23 +1,24 @@
 -- The checks look at the first rows × cols elements of each slice alone.
-use Prim.Native.Nat.{ℕ, _+_, _*_, _%_, _<_}
+use Prim.Native.Nat.{ℕ, _+_, _*_, _<_, min}
 use mathlib.Core.Path.{_≡_, refl}
 use mathlib.Core.Bool.{Bool, true, false, _&&_, _||_}
 use mathlib.Core.List.{List}
 use native.Mathlib.Omega.{arith}
-use borrow.Author.Tests.{ltb-true, ltb-false, lt-ltb, le-ltb}
+use borrow.Author.Tests.{ltb-true}
 use lib.Dec.{ltb}
 use lib.ListN.{take}
 use lib.Seq.{getD-take}
-use lib.IntN.{ℤ, pos}
+use lib.IntN.{ℤ, pos, _+ℤ_, _-ℤ_}
 use Rattle.laws.specs.First.{first-same}
+use Rattle.laws.specs.Logic.{ltb-same}
 use Rattle.figures.specs.Outcome.{Outcome, answered, refused, andThen}
 use Rattle.grid.specs.Grid.{Nodes, firstNodes, nodeRoom, Grid, trimmed}
 use Rattle.grid.specs.Rules.{shape, nodeCount}
-use Rattle.grid.specs.Nodes.{node, beyondRange, outOfRange, tooSteep, steepEast, steepNorth, steepAt}
-use Rattle.grid.specs.Check.{layout, steepness, nodesVerdict, verdict}
+use Rattle.grid.specs.Nodes.{node, beyondRange, outOfRange, hasEast, hasNorth, isSouthwest, tooMuch, steepEast, steepNorth, steepAt, twist, twisted, twistedAt}
+use Rattle.grid.specs.Check.{layout, smoothness, nodesVerdict, verdict}
 use Rattle.grid.specs.declared.Shape.{Shape}
 use Rattle.grid.proofs.RuleLaws.{extent}
-use Rattle.grid.proofs.NodeLaws.{east-in}
+use Rattle.grid.proofs.NodeLaws.{east-in, cell-in}
 use Rattle.grid.proofs.NodeLists.{first-room}
 use Rattle.grid.proofs.Passing.{laid}
 
@@ -35,19 +36,31 @@ module _ (s : Shape) (some-cols : 0 < s .cols) where
   east-front : (S : List ℤ) (k : ℕ) → k < n → steepEast s (take n S) k ≡ steepEast s S k
   unfolding steepEast
   east-front S k l =
-      guarded (ltb (k % s .cols + 1) (s .cols))
-      (λ e. let f = front S (k + 1) (east-in (s .rows) (s .cols) k some-cols l (ltb-true _ _ e)) in λ j. tooSteep (s .dlon) (front S k l j) (f j))
+      guarded (hasEast s k) (λ e. let f = front S (k + 1) (east-in s some-cols k l e) in λ j. tooMuch 16 (s .dlon) (f j -ℤ front S k l j))
 
   north-front : (S : List ℤ) (k : ℕ) → k < n → steepNorth s (take n S) k ≡ steepNorth s S k
-  unfolding steepNorth
-  north-front S k l = guarded (ltb (k + s .cols) n) (λ e. let f = front S (k + s .cols) (ltb-true _ _ e) in λ j. tooSteep (s .dlat) (front S k l j) (f j))
+  unfolding steepNorth hasNorth
+  north-front S k l = guarded (ltb (k + s .cols) n) (λ e. let f = front S (k + s .cols) (ltb-true _ _ e) in λ j. tooMuch 16 (s .dlat) (f j -ℤ front S k l j))
 
-  nodes-front : (ns : Nodes) → nodesVerdict s (firstNodes n ns) ≡ nodesVerdict s ns
-  unfolding nodesVerdict steepness outOfRange steepAt
+  twist-front : (S : List ℤ) (k : ℕ) → twisted s (take n S) k ≡ twisted s S k
+  unfolding twisted twist
+  twist-front S k =
+      guarded (isSouthwest s k)
+      (λ e.
+      let in-cell = cell-in s some-cols k e in
+      let sw = front S k (omega arith) in
+      let se = front S (k + 1) (omega (arith, some-cols)) in
+      let nw = front S (k + s .cols) (omega arith) in
+      let ne = front S (k + s .cols + 1) in-cell in
+      λ j. tooMuch 64 (min (s .dlat) (s .dlon)) (sw j -ℤ se j -ℤ nw j +ℤ ne j))
+
+  pub nodes-front : (ns : Nodes) → nodesVerdict s (firstNodes n ns) ≡ nodesVerdict s ns
+  unfolding nodesVerdict smoothness outOfRange steepAt twistedAt
   nodes-front ns =
       rw (
         first-same (outOfRange (firstNodes n ns)) (outOfRange ns) n (λ j l i. beyondRange (front (ns .lat) j l i) || beyondRange (front (ns .lon) j l i)),
         first-same (steepAt s (firstNodes n ns)) (steepAt s ns) n (λ j l i. (east-front (ns .lat) j l i || east-front (ns .lon) j l i) || (north-front (ns .lat) j l i || north-front (ns .lon) j l i)),
+        first-same (twistedAt s (firstNodes n ns)) (twistedAt s ns) n (λ j l i. twist-front (ns .lat) j i || twist-front (ns .lon) j i),
       )
 
 module _ (g : Grid) where
@@ -55,11 +68,8 @@ module _ (g : Grid) where
   count = nodeCount (g .header)
 
   short-front : (ns : Nodes) → ltb (nodeRoom (firstNodes count ns)) count ≡ ltb (nodeRoom ns) count
-  short-front ns = go (ltb (nodeRoom ns) count) refl
-    where
-      go : (t : Bool) → ltb (nodeRoom ns) count ≡ t → ltb (nodeRoom (firstNodes count ns)) count ≡ t
-      go true e = lt-ltb (nodeRoom (firstNodes count ns)) count (omega (arith, first-room count ns, ltb-true (nodeRoom ns) count e))
-      go false e = le-ltb (nodeRoom (firstNodes count ns)) count (omega (arith, first-room count ns, ltb-false (nodeRoom ns) count e))
+  short-front ns =
+      ltb-same (nodeRoom (firstNodes count ns)) count (nodeRoom ns) count (λ l. omega (arith, first-room count ns)) (λ l. omega (arith, first-room count ns))
 
   layout-front : layout (trimmed g) ≡ layout g
   unfolding layout

@@ -1,18 +1,18 @@
 -- Laws of the checks: each answer of the code, and what a grid that passes has. Theorems use these, never the text of `verdict`.
 use Prim.Native.Nat.{ℕ, _*_, _≤_, _<_}
-use mathlib.Core.Path.{_≡_, refl, sym, _∙_}
+use mathlib.Core.Path.{_≡_, sym, _∙_}
 use mathlib.Core.Bool.{Bool, false, not, _||_}
 use native.Mathlib.Omega.{arith}
 use lib.Dec.{ltb, eqb}
 use borrow.Author.Tests.{ltb-false, lt-ltb, le-ltb, not-false, ne-eqb, eqb-true}
 use Rattle.laws.specs.First.{first, first-is, first-none}
 use Rattle.laws.specs.Logic.{neither}
-use Rattle.figures.specs.Outcome.{answered, refused}
+use Rattle.figures.specs.Outcome.{Outcome, answered, refused}
 use Rattle.figures.proofs.Laws.{both-answered, not-refused, passed-first}
 use Rattle.grid.specs.Grid.{Nodes, nodeRoom, Grid}
 use Rattle.grid.specs.Rules.{brokenRule, shape, nodeCount}
-use Rattle.grid.specs.Nodes.{node, beyondRange, outOfRange, steepEast, steepNorth, steepAt}
-use Rattle.grid.specs.Check.{layout, steepness, nodesVerdict, verdict, Passes}
+use Rattle.grid.specs.Nodes.{node, beyondRange, outOfRange, steepEast, steepNorth, steepAt, twisted, twistedAt}
+use Rattle.grid.specs.Check.{layout, refuseLowest, smoothness, nodesVerdict, verdict, Passes}
 use Rattle.grid.specs.Needs.{InRange}
 use Rattle.grid.specs.declared.Shape.{Shape}
 use Rattle.grid.proofs.RuleLaws.{RulesHold, rules-hold}
@@ -37,27 +37,27 @@ module _ (g : Grid) where
     unfolding layout
     room l = rw (e, le-ltb _ _ l)
 
-module _ (s : Shape) (ns : Nodes) {f : ℕ} (e : f ≡ first (outOfRange ns) (s .rows * s .cols)) where
-  pub range-broken : f < s .rows * s .cols → refused 3 f ≡ nodesVerdict s ns
-  unfolding nodesVerdict
-  range-broken l = rw (← e, lt-ltb _ _ l)
+-- a search for the lowest node at which a test holds came to `f`
+module _ {n f : ℕ} (number : ℕ) (test : ℕ → Bool) (next : Outcome Unit) (e : f ≡ first test n) where
+  pub lowest-refused : f < n → refused number f ≡ refuseLowest n number test next
+  lowest-refused l = rw (← e, lt-ltb _ _ l)
 
-  pub ranges : s .rows * s .cols ≤ f → InRange (s .rows * s .cols) (ns .lat) × InRange (s .rows * s .cols) (ns .lon)
-  unfolding outOfRange
-  ranges l =
-      let n = s .rows * s .cols in
-      let q : (j : ℕ) → j < n → (beyondRange (node (ns .lat) j) ≡ false) × (beyondRange (node (ns .lon) j) ≡ false) =
-      λ j h. neither _ _ (first-none (outOfRange ns) n (rw (← e) (le-ltb _ _ l)) j h) in
-      (record { range = λ j h. in-range (q j h .0) }, record { range = λ j h. in-range (q j h .1) })
+  pub none-refused : n ≤ f → next ≡ refuseLowest n number test next
+  none-refused l = rw (← e, le-ltb _ _ l)
 
-  module _ (l : s .rows * s .cols ≤ f) {g : ℕ} (d : g ≡ first (steepAt s ns) (s .rows * s .cols)) where
-    pub too-steep : g < s .rows * s .cols → refused 4 g ≡ nodesVerdict s ns
-    unfolding nodesVerdict steepness
-    too-steep m = rw (← e, le-ltb _ _ l, ← d, lt-ltb _ _ m)
+pub none-found : {n f : ℕ} (test : ℕ → Bool) → f ≡ first test n → n ≤ f → (j : ℕ) → j < n → test j ≡ false
+none-found {n} test e l = first-none test n (rw (← e) (le-ltb _ _ l))
 
-    pub nodes-pass : s .rows * s .cols ≤ g → answered tt ≡ nodesVerdict s ns
-    unfolding nodesVerdict steepness
-    nodes-pass m = rw (← e, le-ltb _ _ l, ← d, le-ltb _ _ m)
+-- where the outcome is an answer, it came to the end
+lowest-passed : (n number : ℕ) (test : ℕ → Bool) (next : Outcome Unit) → refuseLowest n number test next ≡ answered tt
+    → ((j : ℕ) → j < n → test j ≡ false) × (next ≡ answered tt)
+lowest-passed n number test next e = let t = not-refused (ltb (first test n) n) number (first test n) next e in (first-none test n (t .0), t .1)
+
+pub ranges : {n : ℕ} (ns : Nodes) → ((j : ℕ) → j < n → outOfRange ns j ≡ false) → InRange n (ns .lat) × InRange n (ns .lon)
+unfolding outOfRange
+ranges {n} ns none =
+    let q : (j : ℕ) → j < n → (beyondRange (node (ns .lat) j) ≡ false) × (beyondRange (node (ns .lon) j) ≡ false) = λ j h. neither _ _ (none j h) in
+    (record { range = λ j h. in-range (q j h .0) }, record { range = λ j h. in-range (q j h .1) })
 
 -- ---- what the checks leave
 
@@ -90,17 +90,17 @@ none-of a b c d e =
     (x .0, x .1, y .0, y .1)
 
 nodes-sound : (s : Shape) (ns : Nodes) → nodesVerdict s ns ≡ answered tt → Sound s (ns .lat) × Sound s (ns .lon)
-unfolding nodesVerdict steepness steepAt
+unfolding nodesVerdict smoothness steepAt twistedAt
 nodes-sound s ns e =
     let n = s .rows * s .cols in
-    let f = first (outOfRange ns) n in
-    let g = first (steepAt s ns) n in
-    let t = not-refused (ltb f n) 3 f _ e in
-    let u = not-refused (ltb g n) 4 g _ (t .1) in
-    let r = ranges s ns refl (ltb-false _ _ (t .0)) in
+    let range = lowest-passed n 3 (outOfRange ns) _ e in
+    let steep = lowest-passed n 4 (steepAt s ns) _ (range .1) in
+    let twist = lowest-passed n 14 (twistedAt s ns) _ (steep .1) in
+    let r = ranges ns (range .0) in
     let q : (j : ℕ) → j < n → (steepEast s (ns .lat) j ≡ false) × (steepEast s (ns .lon) j ≡ false) × (steepNorth s (ns .lat) j ≡ false) × (steepNorth s (ns .lon) j ≡ false) =
-    λ j l. none-of (steepEast s (ns .lat) j) (steepEast s (ns .lon) j) (steepNorth s (ns .lat) j) (steepNorth s (ns .lon) j) (first-none (steepAt s ns) n (u .0) j l) in
-    (sound s (ns .lat) (r .0) (λ j h. (q j h .0, q j h .2)), sound s (ns .lon) (r .1) (λ j h. (q j h .1, q j h .3)))
+    λ j l. none-of (steepEast s (ns .lat) j) (steepEast s (ns .lon) j) (steepNorth s (ns .lat) j) (steepNorth s (ns .lon) j) (steep .0 j l) in
+    let t : (j : ℕ) → j < n → (twisted s (ns .lat) j ≡ false) × (twisted s (ns .lon) j ≡ false) = λ j l. neither _ _ (twist .0 j l) in
+    (sound s (ns .lat) (r .0) (λ j h. (q j h .0, q j h .2, t j h .0)), sound s (ns .lon) (r .1) (λ j h. (q j h .1, q j h .3, t j h .1)))
 
 pub good : (g : Grid) → Passes g → Good g
 unfolding verdict
@@ -111,20 +111,19 @@ good g e =
     let c = nodes-sound (shape (g .header)) (g .nodes) (s .1) in
     record { laid-out = a; unbroken = l .unbroken; header = l .header; of-lat = c .0; of-lon = c .1 }
 
--- ---- steepness, the last of the checks
+-- ---- smoothness, the last of the checks
 
 module _ (g : Grid) where
   -- where the others pass, it decides
-  pub steepness-left : brokenRule (g .header) ≡ 0 → nodeCount (g .header) ≤ nodeRoom (g .nodes)
-      → ((k : ℕ) → k < nodeCount (g .header) → outOfRange (g .nodes) k ≡ false) → verdict g ≡ steepness (shape (g .header)) (g .nodes)
+  pub smoothness-left : brokenRule (g .header) ≡ 0 → nodeCount (g .header) ≤ nodeRoom (g .nodes)
+      → ((k : ℕ) → k < nodeCount (g .header) → outOfRange (g .nodes) k ≡ false) → verdict g ≡ smoothness (shape (g .header)) (g .nodes)
   unfolding verdict nodesVerdict
-  steepness-left e r ranged =
+  smoothness-left e r ranged =
       let count = nodeCount (g .header) in
       let none : count ≡ first (outOfRange (g .nodes)) count = first-is (outOfRange (g .nodes)) count count (omega arith) ranged (λ l. absurd (omega arith)) in
-      sym (passed-first _ (room g e r)) ∙ rw (← none, le-ltb count count (omega arith))
+      sym (passed-first _ (room g e r)) ∙ sym (none-refused 3 _ _ none (omega arith))
 
-  pub passes-steepness : Passes g → steepness (shape (g .header)) (g .nodes) ≡ answered tt
+  pub passes-smoothness : Passes g → smoothness (shape (g .header)) (g .nodes) ≡ answered tt
   unfolding verdict nodesVerdict
-  passes-steepness p =
-      let far = first (outOfRange (g .nodes)) (nodeCount (g .header)) in
-      not-refused (ltb far (nodeCount (g .header))) 3 far _ (both-answered (layout g) (nodesVerdict (shape (g .header)) (g .nodes)) p .1) .1
+  passes-smoothness p =
+      lowest-passed (nodeCount (g .header)) 3 (outOfRange (g .nodes)) _ (both-answered (layout g) (nodesVerdict (shape (g .header)) (g .nodes)) p .1) .1

@@ -1,13 +1,13 @@
--- The checks of a grid as one ordered list (document 01, "When the answer is no"): 2, 5, 3, 4.
-use Prim.Native.Nat.{_*_}
+-- The checks of a grid as one ordered list (document 01, "When the answer is no"; document 02, request 11): 2, 5, 3, 4, 14.
+use Prim.Native.Nat.{ℕ, _*_}
 use mathlib.Core.Path.{_≡_}
-use mathlib.Core.Bool.{not}
+use mathlib.Core.Bool.{Bool, not}
 use lib.Dec.{ltb, eqb}
 use Rattle.laws.specs.First.{first}
 use Rattle.figures.specs.Outcome.{Outcome, answered, refusal, andThen, refuseIf}
 use Rattle.grid.specs.Grid.{Nodes, nodeRoom, Grid}
 use Rattle.grid.specs.Rules.{brokenRule, shape}
-use Rattle.grid.specs.Nodes.{outOfRange, steepAt}
+use Rattle.grid.specs.Nodes.{outOfRange, steepAt, twistedAt}
 use Rattle.grid.specs.declared.Shape.{Shape}
 use Rattle.grid.specs.declared.Checked.{Checked}
 
@@ -22,23 +22,24 @@ layout g =
     refuseIf (not (eqb (brokenRule (g .header)) 0)) 2 (brokenRule (g .header))
     (refuseIf (ltb (nodeRoom (g .nodes)) n) 5 n (answered tt))
 
--- "a node is too steep to its east or north neighbour", at the lowest such node
-unfoldable pub steepness : Shape → Nodes → Outcome Unit
-steepness s ns =
-    let n = s .rows * s .cols in
-    let steep = first (steepAt s ns) n in
-    refuseIf (ltb steep n) 4 steep (answered tt)
+-- refused by `number` at the lowest of `n` nodes at which the test holds; or else the outcome of what is judged next
+abbrev pub refuseLowest : (n : ℕ) → (number : ℕ) → (ℕ → Bool) → Outcome Unit → Outcome Unit
+refuseLowest n number test next = refuseIf (ltb (first test n) n) number (first test n) next
 
--- "a shift is beyond its range", at the lowest such node; then steepness
-unfoldable pub nodesVerdict : Shape → Nodes → Outcome Unit
-nodesVerdict s ns =
+-- "a node is too steep to its east or north neighbour"; "directly after 4" a cell is twisted too far, at its southwest node
+unfoldable pub smoothness : Shape → Nodes → Outcome Unit
+smoothness s ns =
     let n = s .rows * s .cols in
-    let far = first (outOfRange ns) n in
-    refuseIf (ltb far n) 3 far (steepness s ns)
+    refuseLowest n 4 (steepAt s ns)
+    (refuseLowest n 14 (twistedAt s ns) (answered tt))
+
+-- "a shift is beyond its range"; then smoothness
+unfoldable pub nodesVerdict : Shape → Nodes → Outcome Unit
+nodesVerdict s ns = refuseLowest (s .rows * s .cols) 3 (outOfRange ns) (smoothness s ns)
 
 unfoldable pub verdict : Grid → Outcome Unit
 verdict g = andThen (layout g) (nodesVerdict (shape (g .header)) (g .nodes))
 
--- "passes the checks if none of 2, 5, 3 and 4 applies to it". Its laws are in proofs/; no theorem looks into it.
+-- "passes the checks if none of 2, 5, 3 and 4 applies to it", nor 14. Its laws are in proofs/; no theorem looks into it.
 abbrev pub Passes : Grid → Type 0
 Passes g = verdict g ≡ answered tt

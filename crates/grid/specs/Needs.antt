@@ -1,9 +1,14 @@
 -- What the private functions ask of their arguments.
 use Prim.Native.Nat.{ℕ, _*_, _≤_, _<_}
+use mathlib.Core.Path.{_≡_}
+use mathlib.Core.Bool.{Bool}
 use mathlib.Core.List.{List}
+use lib.ListN.{length}
 use lib.IntN.{ℤ}
 use Rattle.laws.specs.Parts.{Within}
-use Rattle.grid.specs.Nodes.{maxShift, node}
+use Rattle.grid.specs.Grid.{Nodes}
+use Rattle.grid.specs.Nodes.{maxShift, node, outOfRange, steepAt, twistedAt}
+use Rattle.grid.specs.declared.nodes.NodeCheck.{NodeCheck}
 use Rattle.grid.specs.declared.Shape.{Shape}
 
 -- what rules 1 to 6 leave of the header's numbers
@@ -30,3 +35,19 @@ pub record Extent (s : Shape) : Type 0 where
 -- the first `n` shifts are in range
 pub record InRange (n : ℕ) (S : List ℤ) : Type 0 where
   pub range : (k : ℕ) → k < n → Within maxShift (node S k)
+
+-- one component's shifts, as neighbours are judged: one for each node, all in range
+pub record Component (s : Shape) (S : List ℤ) : Type 0 where
+  pub cut : length S ≡ s .rows * s .cols
+  pub ranged : InRange (s .rows * s .cols) S
+
+-- what each check of the nodes looks for, and which nodes it takes
+abbrev pub failsAt : NodeCheck → Shape → Nodes → ℕ → Bool
+failsAt NodeCheck.Range s ns = outOfRange ns
+failsAt NodeCheck.Steepness s ns = steepAt s ns
+failsAt NodeCheck.Twist s ns = twistedAt s ns
+
+abbrev pub Judgeable : NodeCheck → Shape → Nodes → Type 0
+Judgeable NodeCheck.Range s ns = Unit
+Judgeable NodeCheck.Steepness s ns = Component s (ns .lat) × Component s (ns .lon)
+Judgeable NodeCheck.Twist s ns = Component s (ns .lat) × Component s (ns .lon)

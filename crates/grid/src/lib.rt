@@ -1,9 +1,12 @@
 // One region's shift grid, which document 01 calls the sheet: its header, and the checks that a grid passes.
 // A grid is a header and two lent slices, the latitude and the longitude shifts of its nodes in hundred-thousandths of an arc
 // second. Nodes run from the southernmost row north, each row from west to east.
+mod changes;
 pub mod layout;
 mod nodes;
 mod rules;
+mod steepness;
+mod twist;
 
 use figures::Nad27;
 use figures::Refusal;
@@ -53,13 +56,17 @@ pub enum Checked {
     Refused(Refusal),
 }
 
-// The checks of a grid, in the order 2, 5, 3, 4: the first that it fails.
+// The checks of a grid, in the order 2, 5, 3, 4, 14: the first that it fails.
 pub fn check<'a>(h: Header, lat: &'a [i64], lon: &'a [i64]) -> Checked
     ensures { λ r. ⌜ checkOutcome r ≡ verdict (gridOf h (now (lat .entry)) (now (lon .entry))) ⌝ }
 {
     match layout::check(h, lat, lon) {
         Checked::Refused(why) => Checked::Refused(why),
-        Checked::Passes => nodes::check_nodes(h.shape(), lat, lon),
+        Checked::Passes => {
+            let shape = h.shape();
+            let n = shape.rows * shape.cols;
+            nodes::check_nodes(shape, &lat[..n], &lon[..n])
+        }
     }
 }
 

@@ -20,7 +20,7 @@ use Rattle.lines.specs.Text.{newline}
 use Rattle.grid.specs.Grid.{header, Nodes, noNodes, addNode, overNodes, nodeRoom, Grid, gridWith}
 use Rattle.grid.specs.Rules.{brokenRule, shape, nodeCount}
 use Rattle.grid.specs.Nodes.{beyondRange}
-use Rattle.grid.specs.Check.{layout, steepness}
+use Rattle.grid.specs.Check.{layout, smoothness}
 use Rattle.grid.specs.declared.Header.{Header}
 use Rattle.grid.proofs.NodeLists.{first-over, set-over}
 use Rattle.grid_reader.specs.Reading.{fixed, word, field, comma, nothing, ending, nodes, reading}
@@ -60,7 +60,7 @@ module _ (room : ℕ) (h : Header) (unbroken : brokenRule h ≡ 0) (store : Node
 
   follows : (k : ℕ) (x : ℤ) (ns : Nodes) → k + 1 ≡ nodeCount h → NodesSoFar (nodeCount h) ns → (t : List ℕ)
       → readFrom room (scan wholeAt none h (nodeCount h) k x) (overNodes ns store) t
-      ≡ nothing (10 + nodeCount h) t (andThen (steepness (shape h) ns) (answered (gridWith h ns)))
+      ≡ nothing (10 + nodeCount h) t (andThen (smoothness (shape h) ns) (answered (gridWith h ns)))
   unfolding fed step literalStep form linesBefore lineEnd
   follows k x ns e r [] = rw (first-over (r .counted) store, left-to-judge h ns unbroken r)
   follows k x ns e r (b ∷ t) =
@@ -74,7 +74,7 @@ module _ (room : ℕ) (h : Header) (unbroken : brokenRule h ≡ 0) (store : Node
       ∙ ap (fixed (lineAt endLineAt k) (bytes "end=") t) (λ i u. counts room h (nodeCount h) k x (overNodes ns store) (omega (arith, few)) (node-count h unbroken .0) u i)
       ∙ ap (field (lineAt endLineAt k) newline (bytes "end=") t) (λ i v u. refuseIf (not (eqZ v (pos (nodeCount h)))) 1 (lineAt endLineAt k) (follows k x ns e r u i))
       ∙ ap (λ (line : ℕ). field line newline (bytes "end=") t (λ v u. refuseIf (not (eqZ v (pos (nodeCount h)))) 1 line
-      (nothing (10 + nodeCount h) u (andThen (steepness (shape h) ns) (answered (gridWith h ns)))))) line-is
+      (nothing (10 + nodeCount h) u (andThen (smoothness (shape h) ns) (answered (gridWith h ns)))))) line-is
     where
       line-is : lineAt endLineAt k ≡ 9 + nodeCount h
       line-is = omega arith

@@ -9,8 +9,8 @@ use Rattle.figures.specs.Outcome.{Outcome, answered, refused, andThen, refuseIf
 use Rattle.figures.proofs.Laws.{answer-not-refusal}
 use Rattle.grid.specs.Grid.{Nodes, firstNodes, nodeRoom, Grid, gridWith}
 use Rattle.grid.specs.Rules.{brokenRule, shape, nodeCount}
-use Rattle.grid.specs.Nodes.{outOfRange, steepAt}
-use Rattle.grid.specs.Check.{layout, steepness, nodesVerdict, verdict}
+use Rattle.grid.specs.Nodes.{outOfRange, steepAt, twistedAt}
+use Rattle.grid.specs.Check.{layout, refuseLowest, smoothness, nodesVerdict, verdict}
 use Rattle.grid_reader.specs.Scan.{wholeAt, ended}
 use Rattle.grid_reader.specs.declared.Scan.{Scan}
 use Rattle.grid_reader.specs.declared.Taken.{Taken}
@@ -28,20 +28,24 @@ refuseIf-of-form : {A : Type 0} (t : Bool) (n k : ℕ) {o : Outcome A} → (n �
 refuseIf-of-form true n k f g = refused-of-form n k f
 refuseIf-of-form false n k f g = g
 
+lowest-of-form : (n number : ℕ) (test : ℕ → Bool) {o : Outcome Unit} → (number ≡ 1 → ⊥) → OfForm o → OfForm (refuseLowest n number test o)
+lowest-of-form n number test f g = refuseIf-of-form (ltb (first test n) n) number (first test n) f g
+
 andThen-of-form : {A B : Type 0} (o : Outcome A) {q : Outcome B} → OfForm o → OfForm q → OfForm (andThen o q)
 andThen-of-form (answered a) f g = g
 andThen-of-form (refused n k) f g = refused-of-form n k (λ e. f k (ap (λ j. refused j k) e))
 
 verdict-of-form : (g : Grid) → OfForm (verdict g)
-unfolding verdict layout nodesVerdict steepness
+unfolding verdict layout nodesVerdict smoothness
 verdict-of-form g =
     let n = nodeCount (g .header) in
-    let far = first (outOfRange (g .nodes)) n in
-    let steep = first (steepAt (shape (g .header)) (g .nodes)) n in
+    let s = shape (g .header) in
     andThen-of-form (layout g)
     (refuseIf-of-form (not (eqb (brokenRule (g .header)) 0)) 2 (brokenRule (g .header)) (omega arith)
     (refuseIf-of-form (ltb (nodeRoom (g .nodes)) n) 5 n (omega arith) (answered-of-form tt)))
-    (refuseIf-of-form (ltb far n) 3 far (omega arith) (refuseIf-of-form (ltb steep n) 4 steep (omega arith) (answered-of-form tt)))
+    (lowest-of-form n 3 (outOfRange (g .nodes)) (omega arith)
+    (lowest-of-form n 4 (steepAt s (g .nodes)) (omega arith)
+    (lowest-of-form n 14 (twistedAt s (g .nodes)) (omega arith) (answered-of-form tt))))
 
 -- a whole text is of the form
 pub whole-of-form : (s : Scan) (ns : Nodes) → eqb (s .at) wholeAt ≡ true → OfForm (ended (Taken.On s) ns)

@@ -1,4 +1,4 @@
--- Writing a grid (document 01, "When the answer is no": "Writing: 2, 5, 3, 4, 8").
+-- Writing a grid (document 01, "When the answer is no": "Writing: 2, 5, 3, 4, 8"; and 14 directly after 4, document 02, request 11).
 use Prim.Native.Nat.{ℕ}
 use mathlib.Core.List.{List}
 use Rattle.figures.specs.Outcome.{Outcome, andThen}

@@ -195,11 +195,3 @@ cap {K} {z} a h = record {
 
 pub linear : {z : ℤ} (e : Expr z) → Diff z (e .up) (e .down)
 linear e = e .linear
-
--- what a callee ensured to be `z`, read back as an argument
-module _ {K : ℕ} {r z : ℤ} (e : r ≡ z) (h : Within K z) (t : T (ltb K (2 ^ 63))) where
-  pub ensured-within : Within K (machine r)
-  ensured-within = subst (λ v. Within K (machine v)) (sym e) (reads-within (bounded h) t)
-
-  pub ensured-reads : machine r ≡ z
-  ensured-reads = ap machine e ∙ reads (bounded h) t

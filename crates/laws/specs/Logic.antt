@@ -3,7 +3,7 @@ use mathlib.Core.Path.{_≡_, refl, sym, subst, _∙_}
 use Prim.Native.Nat.{ℕ, _+_, _-_, _≤_, _<_}
 use mathlib.Core.Bool.{Bool, true, false, _&&_, _||_, cond}
 use mathlib.Core.Logic.{_⊎_, inl, inr}
-use borrow.Author.Tests.{ltb-true, ltb-false}
+use borrow.Author.Tests.{ltb-true, ltb-false, lt-ltb}
 use lib.Dec.{T, ltb}
 use lib.IntN.{ℤ}
 use lib.Signed.{leZ, ltZ, _≤ℤ_, _<ℤ_, leZ-yes, ltZ-yes, clashℤ, ≤ℤ-refl}
@@ -17,6 +17,9 @@ is-true false h = absurd h
 pub is-false : (t : Bool) → (T t → ⊥) → t ≡ false
 is-false true h = absurd (h tt)
 is-false false h = refl
+
+pub never : {t : Bool} → (t ≡ true → ⊥) → t ≡ false
+never {t} h = is-false t (λ s. h (is-true t s))
 
 pub not-both : {t : Bool} → t ≡ true → t ≡ false → ⊥
 not-both {t} e f = subst T (sym e ∙ f) tt
@@ -32,6 +35,11 @@ or-true false b e = e
 pub and-false : (p : Bool) → (p && false) ≡ false
 and-false true = refl
 and-false false = refl
+
+-- where `b` is judged first
+pub and-last : (a : Bool) {b r : Bool} → b ≡ true → r ≡ a → r ≡ (a && b)
+and-last true e f = f ∙ sym e
+and-last false e f = f
 
 pub both : (a b : Bool) → (a && b) ≡ true → (a ≡ true) × (b ≡ true)
 both true true e = (refl, refl)
@@ -98,6 +106,14 @@ lt-or-ge a b = go (ltb a b) refl
     go : (t : Bool) → ltb a b ≡ t → (a < b) ⊎ (b ≤ a)
     go true e = inl (ltb-true a b e)
     go false e = inr (ltb-false a b e)
+
+-- two tests that hold together are the same
+pub ltb-same : (a b c d : ℕ) → (a < b → c < d) → (c < d → a < b) → ltb a b ≡ ltb c d
+ltb-same a b c d f g = go (ltb a b) refl
+  where
+    go : (t : Bool) → ltb a b ≡ t → t ≡ ltb c d
+    go true e = sym (lt-ltb c d (f (ltb-true a b e)))
+    go false e = sym (never (λ h. not-both (lt-ltb a b (g (ltb-true c d h))) e))
 
 -- less is left of a loop's work
 pub less-left : (a t b : ℕ) → t < a → 0 < b → a - (t + b) < a - t

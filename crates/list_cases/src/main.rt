@@ -7,6 +7,8 @@
 //                         bytes that are no text, a carriage return, a last line without its newline, and good lines between them
 //     refused_sheet       a grid whose header breaks rule 3 (dlat=900001): the refusal alone, whatever was asked
 //     steep_sheet         a grid whose longitude shifts are too steep for a way back (90,000 from west to east): the refusal alone
+//     twisted_sheet       the Georgia grid, in which a digit and the comma beside it were swapped at node 118: node=7084,2114655 for
+//                         node=70842,114655. It is not too steep, and four cells are twisted too far: the refusal alone
 //     no_sheet            no sheet.txt
 //     folder_for_sheet    sheet.txt is a folder: it opens, and cannot be read
 //     longest_sheet       a sheet of 48,000 bytes, the longest file that is read: it is judged, and refused for what follows its end line

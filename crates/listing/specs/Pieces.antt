@@ -39,7 +39,7 @@ fedText g s piece = texts (fedReplies g s piece)
 unfoldable pub fedList : Grid → Listing → (piece : List ℕ) → Listing
 fedList g s piece = listingOf (take 65 (rest (heldLine s) piece)) (countedAll (s .totals) (fedReplies g s piece))
 
--- 2, 5, 3, 4, then 8
+-- 2, 5, 3, 4, 14, then 8
 unfoldable pub feeding : Grid → Listing → (piece room : List ℕ) → Outcome ℕ
 feeding g s piece room = andThen (verdict g) (inRoom (fedText g s piece) room)
 

@@ -22,7 +22,7 @@ pub struct Fed {
     pub written: Written,
 }
 
-// The first line of a list: 2, 5, 3, 4, then 8.
+// The first line of a list: 2, 5, 3, 4, 14, then 8.
 pub fn begin<'a>(h: Header, lat: &'a [i64], lon: &'a [i64], room: &mut [u8]) -> Written
     ensures answer { λ r. ⌜ writtenOutcome r ≡ beginning (gridOf h (now (lat .entry)) (now (lon .entry))) (now (room .entry)) ⌝ }
     ensures text { λ r. ⌜ now (room .exit) ≡ roomAfter (writtenOutcome r) (sheetText (gridOf h (now (lat .entry)) (now (lon .entry)))) (now (room .entry)) ⌝ }
@@ -33,7 +33,7 @@ pub fn begin<'a>(h: Header, lat: &'a [i64], lon: &'a [i64], room: &mut [u8]) -> 
     }
 }
 
-// The replies to the lines that end in the next piece of the requests: 2, 5, 3, 4, then 8, for an empty piece too. Where it is refused, the
+// The replies to the lines that end in the next piece of the requests: 2, 5, 3, 4, 14, then 8, for an empty piece too. Where it is refused, the
 // list stays as it was.
 pub fn feed<'a>(
     list: Listing,
@@ -96,7 +96,7 @@ pub fn finish(list: Listing, room: &mut [u8]) -> Written
     Written::Bytes(putting::put_end(list, room))
 }
 
-// The whole list for a request text: 2, 5, 3, 4, then 8.
+// The whole list for a request text: 2, 5, 3, 4, 14, then 8.
 pub fn list<'a>(h: Header, lat: &'a [i64], lon: &'a [i64], text: &[u8], room: &mut [u8]) -> Written
     ensures answer { λ r. ⌜ writtenOutcome r ≡ listing (gridOf h (now (lat .entry)) (now (lon .entry))) (now (text .entry)) (now (room .entry)) ⌝ }
     ensures text { λ r. ⌜ now (room .exit) ≡ roomAfter (writtenOutcome r) (listText (gridOf h (now (lat .entry)) (now (lon .entry))) (now (text .entry))) (now (room .entry)) ⌝ }

@@ -15,7 +15,7 @@ use Rattle.decimal.specs.Spelling.{spell}
 use Rattle.grid.specs.Grid.{header, Nodes, noNodes, addNode, Grid, gridWith}
 use Rattle.grid.specs.Rules.{brokenRule, shape, nodeCount}
 use Rattle.grid.specs.Nodes.{beyondRange}
-use Rattle.grid.specs.Check.{layout, steepness, Passes}
+use Rattle.grid.specs.Check.{layout, smoothness, Passes}
 use Rattle.grid.specs.declared.Header.{Header}
 use Rattle.grid.proofs.NodeLists.{Counted}
 use Rattle.grid.proofs.Passing.{laid}
@@ -77,12 +77,12 @@ module _ (h : Header) where
     end-there ns t g s e =
         let n = nodeCount h in
         let grid = gridWith h ns in
-        let last = andThen (steepness (shape h) ns) (answered grid) in
+        let last = andThen (smoothness (shape h) ns) (answered grid) in
         let f = line-there (9 + n) (bytes "end=") t (λ count u. refuseIf (not (eqZ count (pos n))) 1 (9 + n) (nothing (10 + n) u last)) e in
         let r = not-refused (not (eqZ (f .0) (pos n))) 1 (9 + n) (nothing (10 + n) (f .1) last) (f .3) in
         let c : f .0 ≡ pos n = eqZ-holds (not-false (eqZ (f .0) (pos n)) (r .0)) in
         let o = nothing-there (10 + n) (f .1) last (r .1) in
-        let v = both-answered (steepness (shape h) ns) (answered grid) (o .1) in
+        let v = both-answered (smoothness (shape h) ns) (answered grid) (o .1) in
         let t-is : t ≡ line (bytes "end=") (pos n ∷ []) = f .2 ∙ (λ i. line (bytes "end=") (c i ∷ []) ++ o .0 i) ∙ append-nil (line (bytes "end=") (pos n ∷ [])) in
         subst (λ (q : Grid). Rest (nodeCount h) ns t q) (same-answer (v .1))
         (refl, ap (λ (q : List ℕ). nodeLines ns n ++ q) t-is, left-to-judge h ns unbroken s ∙ v .0 .1, s .counted)

@@ -14,11 +14,11 @@ use Rattle.decimal.specs.Spelling.{spell, Short}
 use Rattle.grid.specs.Grid.{Nodes, noNodes, addNode, firstNodes, nodeRoom, Grid, gridWith, trimmed}
 use Rattle.grid.specs.Rules.{minus, nodeCount, shape}
 use Rattle.grid.specs.Nodes.{maxShift, node, beyondRange}
-use Rattle.grid.specs.Check.{layout, steepness, Passes}
+use Rattle.grid.specs.Check.{layout, smoothness, Passes}
 use Rattle.grid.proofs.RuleLaws.{Between, between-within, extent}
 use Rattle.grid.proofs.NodeLaws.{not-beyond}
 use Rattle.grid.proofs.NodeLists.{first-more}
-use Rattle.grid.proofs.Passing.{Good, good, laid, passes-steepness}
+use Rattle.grid.proofs.Passing.{Good, good, laid, passes-smoothness}
 use Rattle.grid.proofs.Front.{verdict-front}
 use Rattle.lines.specs.Text.{newline, listed, line}
 use Rattle.grid_text.specs.Text.{headerText, nodeLine, nodeLines, gridText}
@@ -94,10 +94,10 @@ module _ (g : Grid) (p : Passes g) where
   end-here =
       ap (λ (q : List ℕ). field (9 + n) newline (bytes "end=") q next) (sym (append-nil (line (bytes "end=") (pos n ∷ []))))
       ∙ line-here (9 + n) (bytes "end=") [] (pos n) next (omega (arith, extent (checked .header) .nodes))
-      ∙ rw (eqZ-true {a = pos n} refl, passes-steepness (trimmed g) (verdict-front g ∙ p))
+      ∙ rw (eqZ-true {a = pos n} refl, passes-smoothness (trimmed g) (verdict-front g ∙ p))
     where
       next : ℤ → List ℕ → Outcome Grid
-      next count u = refuseIf (not (eqZ count (pos n))) 1 (9 + n) (nothing (10 + n) u (andThen (steepness (shape (g .header)) (firstNodes n (g .nodes))) (answered (trimmed g))))
+      next count u = refuseIf (not (eqZ count (pos n))) 1 (9 + n) (nothing (10 + n) u (andThen (smoothness (shape (g .header)) (firstNodes n (g .nodes))) (answered (trimmed g))))
 
   -- the text of the grid, read into any slices: the grid, where they have room for its nodes
   pub read-back : (slices : Nodes) → reading (gridText g) slices ≡ andThen (layout (gridWith (g .header) slices)) (answered (trimmed g))

@@ -2,8 +2,8 @@ use borrow.Author.Needs.{needs}
 use mathlib.Core.Path.{_≡_, sym, _∙_}
 use mathlib.Core.Bool.{false}
 use Rattle.grid.specs.Nodes.{steepEast, steepAt}
-use Rattle.grid.proofs.nodes.steep_at.Statement.{statement}
-use Rattle.grid.proofs.nodes.steep_at.Tie as tie
+use Rattle.grid.proofs.steepness.steep_at.Statement.{statement}
+use Rattle.grid.proofs.steepness.steep_at.Tie as tie
 
 no-east : (c : tie.Else1) → let a = c .before .before .args in steepEast (a .shape) (a .lat .now) (a .k) ≡ false
 no-east c = sym (c .before .steep-east .ensures) ∙ c .if1 .left
