@@ -126,7 +126,7 @@ fn last_node(from: i64, step: i64, n: i64) -> i64
 }
 
 // The number, or 0 where it is below 0.
-pub(crate) fn natural(x: i64) -> usize
+fn natural(x: i64) -> usize
     ensures { λ r. ⌜ r ≡ posPart x ⌝ }
 {
     if x < 0 {
