@@ -23,10 +23,10 @@ layout g =
     (refuseIf (ltb (nodeRoom (g .nodes)) n) 5 n (answered tt))
 
 -- refused by `number` at the lowest of `n` nodes at which the test holds; or else the outcome of what is judged next
-abbrev pub refuseLowest : (n : ℕ) → (number : ℕ) → (ℕ → Bool) → Outcome Unit → Outcome Unit
+abbrev pub refuseLowest : (n number : ℕ) → (test : ℕ → Bool) → (next : Outcome Unit) → Outcome Unit
 refuseLowest n number test next = refuseIf (ltb (first test n) n) number (first test n) next
 
--- "a node is too steep to its east or north neighbour"; "directly after 4" a cell is twisted too far, at its southwest node
+-- "a node is too steep to its east or north neighbour"; then "14, the lowest southwest node of such a cell, directly after 4"
 unfoldable pub smoothness : Shape → Nodes → Outcome Unit
 smoothness s ns =
     let n = s .rows * s .cols in
