@@ -14,7 +14,7 @@ use Rattle.laws.specs.Logic.{ltb-same}
 use Rattle.figures.specs.Outcome.{Outcome, answered, refused, andThen}
 use Rattle.grid.specs.Grid.{Nodes, firstNodes, nodeRoom, Grid, trimmed}
 use Rattle.grid.specs.Rules.{shape, nodeCount}
-use Rattle.grid.specs.Nodes.{node, beyondRange, outOfRange, hasEast, hasNorth, isSouthwest, tooMuch, steepEast, steepNorth, steepAt, twist, twisted, twistedAt}
+use Rattle.grid.specs.Nodes.{node, beyondRange, outOfRange, hasEast, hasNorth, isSouthwest, tooMuch, steepTo, steepEast, steepNorth, steepAt, twist, twisted, twistedAt}
 use Rattle.grid.specs.Check.{layout, smoothness, nodesVerdict, verdict}
 use Rattle.grid.specs.declared.Shape.{Shape}
 use Rattle.grid.proofs.RuleLaws.{extent}
@@ -34,12 +34,12 @@ module _ (s : Shape) (some-cols : 0 < s .cols) where
   guarded false h = refl
 
   east-front : (S : List ℤ) (k : ℕ) → k < n → steepEast s (take n S) k ≡ steepEast s S k
-  unfolding steepEast
+  unfolding steepEast steepTo
   east-front S k l =
       guarded (hasEast s k) (λ e. let f = front S (k + 1) (east-in s some-cols k l e) in λ j. tooMuch 16 (s .dlon) (f j -ℤ front S k l j))
 
   north-front : (S : List ℤ) (k : ℕ) → k < n → steepNorth s (take n S) k ≡ steepNorth s S k
-  unfolding steepNorth hasNorth
+  unfolding steepNorth steepTo hasNorth
   north-front S k l = guarded (ltb (k + s .cols) n) (λ e. let f = front S (k + s .cols) (ltb-true _ _ e) in λ j. tooMuch 16 (s .dlat) (f j -ℤ front S k l j))
 
   twist-front : (S : List ℤ) (k : ℕ) → twisted s (take n S) k ≡ twisted s S k

@@ -1,6 +1,6 @@
 -- Laws of range, steepness and twist, node by node.
 use Prim.Native.Nat.{ℕ, _+_, _*_, _/_, _%_, _≤_, _<_, min}
-use mathlib.Core.Path.{_≡_, refl, sym, subst, _∙_}
+use mathlib.Core.Path.{_≡_, refl, sym, ap, subst, _∙_}
 use mathlib.Core.Bool.{Bool, true, false, not, _&&_}
 use mathlib.Core.List.{List}
 use mathlib.Core.Logic.{_⊎_, inl, inr}
@@ -16,7 +16,7 @@ use Rattle.laws.specs.Bounds.{own-size, within-neg}
 use Rattle.laws.specs.Expr.{linear, lit, ⊝}
 use Rattle.laws.specs.Logic.{never, and-last, both, not-both, second-fails, lt-or-ge, ltb-same}
 use Rattle.grid.specs.Rules.{minus, between}
-use Rattle.grid.specs.Nodes.{maxShift, node, beyondRange, hasEast, hasNorth, isSouthwest, tooMuch, steepEast, steepNorth, twist, twisted}
+use Rattle.grid.specs.Nodes.{maxShift, node, beyondRange, hasEast, hasNorth, isSouthwest, tooMuch, steepTo, steepEast, steepNorth, twist, twisted}
 use Rattle.grid.specs.Needs.{InRange, Component}
 use Rattle.grid.specs.declared.Shape.{Shape}
 use Rattle.grid.proofs.RuleLaws.{between-holds, between-true, between-within}
@@ -73,19 +73,14 @@ module _ (s : Shape) (some-cols : 0 < s .cols) (k : ℕ) where
       let e' : k % s .cols + 1 < s .cols = ltb-true _ _ e in
       omega (arith, div-add-mod k (s .cols), mul-le-mul-left (s .cols) q)
 
-  -- so the grid's last node has no east neighbour
-  pub no-east : k < n → n ≤ k + 1 → hasEast s k ≡ false
-  no-east h l = never (λ e. omega (arith, east-in h e))
-
--- the north neighbour, as the code looks for it
+-- the neighbours, as the code looks for them in a slice that is cut to the nodes
 module _ {s : Shape} {S : List ℤ} (c : Component s S) (k : ℕ) where
-  pub has-north : k + s .cols < length S → hasNorth s k ≡ true
-  unfolding hasNorth
-  has-north l = lt-ltb (k + s .cols) (s .rows * s .cols) (omega (arith, c .cut))
+  pub east-there : 0 < s .cols → k < s .rows * s .cols → hasEast s k ≡ true → ltb (k + 1) (length S) ≡ true
+  east-there some-cols l e = lt-ltb (k + 1) (length S) (omega (arith, c .cut, east-in s some-cols k l e))
 
-  pub no-north : length S ≤ k + s .cols → hasNorth s k ≡ false
+  pub north-there : ltb (k + s .cols) (length S) ≡ hasNorth s k
   unfolding hasNorth
-  no-north l = le-ltb (k + s .cols) (s .rows * s .cols) (omega (arith, c .cut))
+  north-there = ap (ltb (k + s .cols)) (c .cut)
 
 -- below the last row it is the east neighbour that makes a cell
 pub southwest-is : (s : Shape) (k : ℕ) → k + s .cols < s .rows * s .cols → hasEast s k ≡ isSouthwest s k
@@ -117,7 +112,7 @@ pub record Sound (s : Shape) (S : List ℤ) : Type 0 where
 
 pub sound : (s : Shape) (S : List ℤ) → InRange (s .rows * s .cols) S
     → ((k : ℕ) → k < s .rows * s .cols → (steepEast s S k ≡ false) × (steepNorth s S k ≡ false) × (twisted s S k ≡ false)) → Sound s S
-unfolding steepEast steepNorth twisted isSouthwest hasEast hasNorth tooMuch
+unfolding steepEast steepNorth steepTo twisted isSouthwest hasEast hasNorth tooMuch
 sound s S r g =
     record {
       ranged = r;
@@ -127,5 +122,9 @@ sound s S r g =
     }
 
 -- what `number_at` gave
-pub node-in : {s : Shape} {S : List ℤ} → Component s S → {k : ℕ} → k < length S → {r : ℤ} → r ≡ node S k → Within maxShift r
-node-in c {k} l e = subst (Within maxShift) (sym e) (c .ranged .range k (omega (arith, c .cut)))
+pub node-in : {n : ℕ} {S : List ℤ} → InRange n S → {k : ℕ} → k < n → {r : ℤ} → r ≡ node S k → Within maxShift r
+node-in i {k} l e = subst (Within maxShift) (sym e) (i .range k l)
+
+-- the whole of a slice that is cut to the nodes
+pub all-ranged : {s : Shape} {S : List ℤ} → Component s S → InRange (length S) S
+all-ranged {S = S} c = subst (λ (n : ℕ). InRange n S) (sym (c .cut)) (c .ranged)

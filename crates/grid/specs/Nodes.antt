@@ -37,11 +37,14 @@ unfoldable pub tooMuch : (times spacing : ℕ) → (x : ℤ) → Bool
 tooMuch times spacing x = ltb (100 * spacing) (times * natAbs x)
 
 -- "the size of the difference between a node and its east neighbour, times 16, is at most 100 × dlon", denied; so to the north
+unfoldable pub steepTo : (spacing : ℕ) → List ℤ → (k to : ℕ) → Bool
+steepTo spacing S k to = tooMuch 16 spacing (node S to -ℤ node S k)
+
 unfoldable pub steepEast : Shape → List ℤ → ℕ → Bool
-steepEast s S k = hasEast s k && tooMuch 16 (s .dlon) (node S (k + 1) -ℤ node S k)
+steepEast s S k = hasEast s k && steepTo (s .dlon) S k (k + 1)
 
 unfoldable pub steepNorth : Shape → List ℤ → ℕ → Bool
-steepNorth s S k = hasNorth s k && tooMuch 16 (s .dlat) (node S (k + s .cols) -ℤ node S k)
+steepNorth s S k = hasNorth s k && steepTo (s .dlat) S k (k + s .cols)
 
 -- "the east neighbour stands before the north one, then latitude before longitude"
 unfoldable pub steepAt : Shape → Nodes → ℕ → Bool

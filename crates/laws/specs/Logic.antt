@@ -51,6 +51,11 @@ pub second-fails : (a b : Bool) → (a && b) ≡ false → a ≡ true → b ≡ 
 second-fails true b e h = e
 second-fails false b e h = absurd (subst T (sym h) tt)
 
+-- a test that implies another fails beside what fails beside the other
+pub and-implied : (a b c : Bool) → (a ≡ true → c ≡ true) → (c && b) ≡ false → (a && b) ≡ false
+and-implied true b c h e = second-fails c b e (h refl)
+and-implied false b c h e = refl
+
 pub leZ-true : {a b : ℤ} → a ≤ℤ b → leZ a b ≡ true
 leZ-true {a} {b} h = is-true (leZ a b) (h .le)
 

@@ -6,7 +6,7 @@ use lib.IntN.{_+ℤ_, _-ℤ_}
 use Rattle.laws.specs.Expr.{Expr, need, reads, bounded, _⊕_, _⊖_}
 use Rattle.laws.specs.Logic.{and-last, and-false}
 use Rattle.grid.specs.Nodes.{isSouthwest, tooMuch, twist, twisted}
-use Rattle.grid.proofs.NodeLaws.{southwest-is, node-in, no-cell}
+use Rattle.grid.proofs.NodeLaws.{southwest-is, all-ranged, node-in, no-cell}
 use Rattle.grid.proofs.twist.twisted.Statement.{statement}
 use Rattle.grid.proofs.twist.twisted.Tie as tie
 
@@ -14,20 +14,20 @@ use Rattle.grid.proofs.twist.twisted.Tie as tie
 abbrev south : (c : tie.After-number-at2) → Expr (c .before .number-at .result -ℤ c .number-at2 .result)
 south c =
     let t = c .before .before in
-    let p = t .before .before .pre .1 in
+    let p = all-ranged (t .before .before .pre .1) in
     bounded (node-in p (omega (arith, t .if1 .taken)) (c .before .number-at .ensures))
     ⊖ bounded (node-in p (omega (arith, t .if1 .taken, t .before .before .pre .0 .cols-low)) (c .number-at2 .ensures))
 
 abbrev three : (c : tie.After-number-at3) → Expr (c .before .before .number-at .result -ℤ c .before .number-at2 .result -ℤ c .number-at3 .result)
 three c =
     let t = c .before .before .before in
-    south (c .before) ⊖ bounded (node-in (t .before .before .pre .1) (omega (arith, t .if1 .taken)) (c .number-at3 .ensures))
+    south (c .before) ⊖ bounded (node-in (all-ranged (t .before .before .pre .1)) (omega (arith, t .if1 .taken)) (c .number-at3 .ensures))
 
 abbrev four : (c : tie.After-number-at4)
     → Expr (c .before .before .before .number-at .result -ℤ c .before .before .number-at2 .result -ℤ c .before .number-at3 .result +ℤ c .number-at4 .result)
 four c =
     let t = c .before .before .before .before in
-    three (c .before) ⊕ bounded (node-in (t .before .before .pre .1) (omega (arith, t .if1 .taken)) (c .number-at4 .ensures))
+    three (c .before) ⊕ bounded (node-in (all-ranged (t .before .before .pre .1)) (omega (arith, t .if1 .taken)) (c .number-at4 .ensures))
 
 judged : (c : tie.After-too-much)
     → let a = c .before .before .before .before .before .before .before .before .args in tooMuch 64 (min (a .shape .dlat) (a .shape .dlon)) (twist (a .shape .cols) (a .s .now) (a .k)) ≡ c .too-much .result
