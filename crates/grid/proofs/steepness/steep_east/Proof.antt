@@ -14,7 +14,7 @@ add-steep-to : tie.Need-add-steep-to
 add-steep-to c = search needs
 
 steep-to-requires : tie.Need-steep-to-requires
-steep-to-requires c κs = (c .pre .0 .dlon-high, all-ranged (c .pre .1), omega arith)
+steep-to-requires c κs = (omega (arith, c .pre .0), all-ranged (c .pre .1), omega arith)
 
 has-east-requires : tie.Need-has-east-requires
 has-east-requires c κs = search needs

@@ -12,7 +12,7 @@ add-steep-to : tie.Need-add-steep-to
 add-steep-to c = search needs
 
 steep-to-requires : tie.Need-steep-to-requires
-steep-to-requires c κs = let p = c .before .pre in (p .0 .dlat-high, all-ranged (p .1), omega (arith, p .0 .cols-low))
+steep-to-requires c κs = let p = c .before .pre in (omega (arith, p .0), all-ranged (p .1), omega (arith, p .0 .cols-low))
 
 returns : tie.Need-returns
 unfolding steepNorth
