@@ -41,7 +41,7 @@ static int read_grid(void) {
 static number interpolate(const number *sw, number a, number b, number c, number d) {
     const number *nw = sw + cols;
     number denominator = (a + b) * (c + d);
-    number numerator = sw[0] * b * d + sw[1] * a * d + nw[0] * b * c + nw[1] * a * c;
+    number numerator = (sw[0] * b + sw[1] * a) * d + (nw[0] * b + nw[1] * a) * c;
     number q = numerator / denominator, r = numerator % denominator;
     number twice = 2 * r + q % 2;
     if (twice > denominator)

@@ -10,6 +10,11 @@ static inline int64_t rounded(int64_t numerator, int64_t denominator) {
     return q + (twice > denominator) - (twice < -denominator);
 }
 
+// Along one row of a cell, whose west node comes first.
+static inline int64_t row_sum(const int64_t *shifts, int64_t a, int64_t b) {
+    return shifts[0] * b + shifts[1] * a;
+}
+
 // The shifts at the point x east and y north of the southwest corner.
 static inline void shift_at(const struct grid *grid, int64_t x, int64_t y, int64_t *lat, int64_t *lon) {
     int64_t dlat = grid->header[2], dlon = grid->header[3], rows = grid->header[4], cols = grid->header[5];
@@ -20,9 +25,9 @@ static inline void shift_at(const struct grid *grid, int64_t x, int64_t y, int64
     if (col > cols - 2)
         col = cols - 2;
     int64_t a = x - col * dlon, b = dlon - a, c = y - row * dlat, d = dlat - c;
-    int64_t sw = row * cols + col, se = sw + 1, nw = sw + cols, ne = nw + 1;
-    *lat = rounded(grid->lat[sw] * b * d + grid->lat[se] * a * d + grid->lat[nw] * b * c + grid->lat[ne] * a * c, dlat * dlon);
-    *lon = rounded(grid->lon[sw] * b * d + grid->lon[se] * a * d + grid->lon[nw] * b * c + grid->lon[ne] * a * c, dlat * dlon);
+    int64_t sw = row * cols + col, nw = sw + cols;
+    *lat = rounded(row_sum(grid->lat + sw, a, b) * d + row_sum(grid->lat + nw, a, b) * c, dlat * dlon);
+    *lon = rounded(row_sum(grid->lon + sw, a, b) * d + row_sum(grid->lon + nw, a, b) * c, dlat * dlon);
 }
 
 void plain_to83(const struct grid *grid, const int64_t *restrict points, int64_t *restrict answers, size_t n) {

@@ -1,15 +1,18 @@
-// One component's shift in a cell: equation 2 of the bulletin, worked exactly and rounded once. Corners and distances go in, and the
-// shift comes out; the grid has been checked.
+// One component's shift at a point of a cell, as Bulletin 1875-B interpolates it: along the southern row, along the northern row, then
+// between the two rows. The bulletin divides at each step; here the sums stay whole numbers, and one division comes at the end, rounded
+// once (its equation 2). Corners and distances go in, and the shift comes out; the grid has been checked.
 use shift::Corners;
 use shift::Distances;
 use sizes::magnitude;
 ghost use mathlib.Core.Path.{_≡_};
 ghost use Prim.Native.Nat.{_+_, _*_, _≤_, _<_};
 ghost use Rattle.laws.specs.Parts.{Within};
+ghost use Rattle.grid.specs.Nodes.{maxShift};
 ghost use Rattle.shift.specs.Round.{roundSize, nearest};
-ghost use Rattle.shift.specs.Shift.{numerator, fourCorner};
+ghost use Rattle.shift.specs.Shift.{rowSum, numerator, fourCorner};
 ghost use Rattle.shift.specs.Needs.{Weighted, CornersIn};
 
+// Equation 2: Sp = ((S1·B + S2·A)·D + (S3·B + S4·A)·C) / ((A + B)(C + D)), rounded.
 pub(crate) fn four_corner(s: Corners, at: Distances) -> i64
     requires { ⌜ (CornersIn s) × (Weighted at) ⌝ }
     ensures { λ r. ⌜ r ≡ fourCorner s at ⌝ }
@@ -18,16 +21,26 @@ pub(crate) fn four_corner(s: Corners, at: Distances) -> i64
     rounded(numerator(s, at), denominator)
 }
 
-// S1·B·D + S2·A·D + S3·B·C + S4·A·C
+// Along both rows, and between them. The bulletin's S5 and S6 are these row sums over A + B.
 fn numerator(s: Corners, at: Distances) -> i64
     requires { ⌜ (CornersIn s) × (Weighted at) ⌝ }
     ensures { λ r. ⌜ (r ≡ numerator s at) × (Within 4860000000000000000 r) ⌝ }
 {
-    let a = at.a as i64;
-    let b = at.b as i64;
     let c = at.c as i64;
     let d = at.d as i64;
-    s.s1 * b * d + s.s2 * a * d + s.s3 * b * c + s.s4 * a * c
+    let southern = row_sum(s.s1, s.s2, at);
+    let northern = row_sum(s.s3, s.s4, at);
+    southern * d + northern * c
+}
+
+// Along one row, from its west corner S1 to its east corner S2: equation 1, Sp = (S1·B + S2·A) / (A + B), before its division.
+fn row_sum(s1: i64, s2: i64, at: Distances) -> i64
+    requires { ⌜ (Within maxShift s1) × (Within maxShift s2) × (Weighted at) ⌝ }
+    ensures { λ r. ⌜ (r ≡ rowSum s1 s2 at) × (Within 5400000000000 r) ⌝ }
+{
+    let a = at.a as i64;
+    let b = at.b as i64;
+    s1 * b + s2 * a
 }
 
 // The nearest whole number to `n / d`, a tie to the even one: the size is rounded, and the sign stays.

@@ -1,4 +1,5 @@
 pub mod Rounding
 pub mod Sums
+pub mod Bulletin
 pub mod Cells
 pub mod OnGrid

@@ -13,6 +13,11 @@ use Rattle.shift.specs.declared.Corners.{Corners}
 use Rattle.shift.specs.declared.Distances.{Distances}
 use Rattle.shift.specs.declared.Shift.{Shift}
 
+-- the sum along one row, what equation 1 divides by A + B: S1·B + S2·A of the southern row, S3·B + S4·A of the northern one (document 02,
+-- request 4: "the two row sums")
+unfoldable pub rowSum : (s1 s2 : ℤ) → Distances → ℤ
+rowSum s1 s2 k = s1 *ℤ pos (k .b) +ℤ s2 *ℤ pos (k .a)
+
 -- S1·B·D + S2·A·D + S3·B·C + S4·A·C
 unfoldable pub numerator : Corners → Distances → ℤ
 numerator s k =

@@ -1,0 +1,27 @@
+-- The bulletin's example, worked by hand there: its two steps in whole numbers, with longitude positive east. The README shows the same.
+use Prim.Native.Nat.{ℕ}
+use mathlib.Core.Path.{_≡_, refl}
+use lib.IntN.{ℤ, pos}
+use Rattle.shift.specs.Round.{roundSize, nearest}
+use Rattle.shift.specs.Shift.{rowSum, numerator, fourCorner}
+use Rattle.shift.specs.declared.Corners.{Corners}
+use Rattle.shift.specs.declared.Distances.{Distances}
+
+-- step 3 of the example
+abbrev distances : Distances
+distances = record { a = 218070; b = 231930; c = 310250; d = 139750 }
+
+-- step 4: along both rows, between them, and the rounded shift
+pub record Worked (s : Corners) (southern northern between shift : ℕ) : Type 0 where
+  pub southern-row : rowSum (s .s1) (s .s2) distances ≡ pos southern
+  pub northern-row : rowSum (s .s3) (s .s4) distances ≡ pos northern
+  pub both-rows : numerator s distances ≡ pos between
+  pub rounded : fourCorner s distances ≡ pos shift
+
+pub latitude : Worked (record { s1 = pos 53000; s2 = pos 57000; s3 = pos 51000; s4 = pos 57000 }) 24722280000 24258420000 10981113435000000 54228
+unfolding rowSum numerator fourCorner nearest roundSize
+latitude = record { southern-row = refl; northern-row = refl; both-rows = refl; rounded = refl }
+
+pub longitude : Worked (record { s1 = pos 42000; s2 = pos 49000; s3 = pos 41000; s4 = pos 49000 }) 20426490000 20194560000 9119964217500000 45037
+unfolding rowSum numerator fourCorner nearest roundSize
+longitude = record { southern-row = refl; northern-row = refl; both-rows = refl; rounded = refl }
