@@ -1,6 +1,6 @@
 // One component's shift at a point of a cell, as Bulletin 1875-B interpolates it: along the southern row, along the northern row, then
-// between the two rows. The bulletin divides at each step; here the sums stay whole numbers, and one division comes at the end, rounded
-// once (its equation 2). Corners and distances go in, and the shift comes out; the grid has been checked.
+// between the two. The bulletin divides at each step and then joins the steps in its equation 2; here too the sums stay whole, and a
+// single division comes last, rounded once. Corners and distances go in, and the shift comes out; the grid has been checked.
 use shift::Corners;
 use shift::Distances;
 use sizes::magnitude;
@@ -17,20 +17,7 @@ pub(crate) fn four_corner(s: Corners, at: Distances) -> i64
     requires { ⌜ (CornersIn s) × (Weighted at) ⌝ }
     ensures { λ r. ⌜ r ≡ fourCorner s at ⌝ }
 {
-    let denominator = (at.a + at.b) * (at.c + at.d);
-    rounded(numerator(s, at), denominator)
-}
-
-// Along both rows, and between them. The bulletin's S5 and S6 are these row sums over A + B.
-fn numerator(s: Corners, at: Distances) -> i64
-    requires { ⌜ (CornersIn s) × (Weighted at) ⌝ }
-    ensures { λ r. ⌜ (r ≡ numerator s at) × (Within 4860000000000000000 r) ⌝ }
-{
-    let c = at.c as i64;
-    let d = at.d as i64;
-    let southern = row_sum(s.s1, s.s2, at);
-    let northern = row_sum(s.s3, s.s4, at);
-    southern * d + northern * c
+    rounded(numerator(s, at), (at.a + at.b) * (at.c + at.d))
 }
 
 // Along one row, from its west corner S1 to its east corner S2: equation 1, Sp = (S1·B + S2·A) / (A + B), before its division.
@@ -41,6 +28,18 @@ fn row_sum(s1: i64, s2: i64, at: Distances) -> i64
     let a = at.a as i64;
     let b = at.b as i64;
     s1 * b + s2 * a
+}
+
+// Along both rows, then between them. The bulletin's S5 and S6 are these two sums over A + B.
+fn numerator(s: Corners, at: Distances) -> i64
+    requires { ⌜ (CornersIn s) × (Weighted at) ⌝ }
+    ensures { λ r. ⌜ (r ≡ numerator s at) × (Within 4860000000000000000 r) ⌝ }
+{
+    let c = at.c as i64;
+    let d = at.d as i64;
+    let southern = row_sum(s.s1, s.s2, at);
+    let northern = row_sum(s.s3, s.s4, at);
+    southern * d + northern * c
 }
 
 // The nearest whole number to `n / d`, a tie to the even one: the size is rounded, and the sign stays.

@@ -1,7 +1,7 @@
 -- The bulletin's example, worked by hand there: its two steps in whole numbers, with longitude positive east. The README shows the same.
 use Prim.Native.Nat.{ℕ}
 use mathlib.Core.Path.{_≡_, refl}
-use lib.IntN.{ℤ, pos}
+use lib.IntN.{pos}
 use Rattle.shift.specs.Round.{roundSize, nearest}
 use Rattle.shift.specs.Shift.{rowSum, numerator, fourCorner}
 use Rattle.shift.specs.declared.Corners.{Corners}

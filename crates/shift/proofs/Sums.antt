@@ -48,8 +48,7 @@ module _ (s : Corners) (k : Distances) (i : CornersIn s) where
   numerator-within =
       let south = weighted-within (k .b) (k .a) (i .sw) (i .se) in
       let north = weighted-within (k .b) (k .a) (i .nw) (i .ne) in
-      let e = rows-numerator s k in
-      record { size = omega (arith, (rw e at (weighted-within (k .d) (k .c) south north)) .size) }
+      record { size = omega (arith, (rw (rows-numerator s k) at (weighted-within (k .d) (k .c) south north)) .size) }
 
   -- a mean of shifts in range is in range
   pub four-corner-within : Weighted k → Within maxShift (fourCorner s k)
