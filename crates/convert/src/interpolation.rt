@@ -1,6 +1,6 @@
 // One component's shift at a point of a cell, as Bulletin 1875-B interpolates it: along the southern row, along the northern row, then
-// between the two. The bulletin divides at each step and then joins the steps in its equation 2; here too the sums stay whole, and a
-// single division comes last, rounded once. Corners and distances go in, and the shift comes out; the grid has been checked.
+// between the two. The bulletin divides at each step, and its equation 2 joins these divisions into one. So it is done here: the sums
+// stay whole, and one division comes last, rounded once. Corners and distances go in, and the shift comes out; the grid has been checked.
 use shift::Corners;
 use shift::Distances;
 use sizes::magnitude;
