@@ -36,23 +36,27 @@ static int read_grid(void) {
     return nodes;
 }
 
+// A shift, rounded, and the sign of the rounded shift minus the exact fraction.
+struct shift {
+    number rounded, sign;
+};
+
 // The bilinear shift in a cell, rounded to the nearest, a tie to the even number: an odd quotient takes twice the remainder one further
-// from zero, and that decides a tie.
-static number interpolate(const number *sw, number a, number b, number c, number d) {
+// from zero, and that decides a tie. Without branches, which the processor could not foretell.
+static struct shift interpolate(const number *sw, number a, number b, number c, number d) {
     const number *nw = sw + cols;
     number denominator = (a + b) * (c + d);
     number numerator = (sw[0] * b + sw[1] * a) * d + (nw[0] * b + nw[1] * a) * c;
     number q = numerator / denominator, r = numerator % denominator;
     number twice = 2 * r + q % 2;
-    if (twice > denominator)
-        return q + 1;
-    if (twice < -denominator)
-        return q - 1;
-    return q;
+    number nearest = q + (twice > denominator) - (twice < -denominator);
+    number difference = nearest * denominator - numerator;
+    number above = difference > 0, below = difference < 0;
+    return (struct shift){nearest, above - below};
 }
 
 // The shifts at the point x east and y north of the southwest corner.
-static void shift_at(number x, number y, number *lat, number *lon) {
+static void shift_at(number x, number y, struct shift *lat, struct shift *lon) {
     number col = x / dlon, row = y / dlat;
     if (col > cols - 2)
         col = cols - 2;
@@ -71,11 +75,12 @@ static int refuse(int why) {
 }
 
 static int to83(number lat, number lon) {
-    number x = lon - west, y = lat - south, lat_shift, lon_shift;
+    number x = lon - west, y = lat - south;
+    struct shift lat_shift, lon_shift;
     if (x < 0 || y < 0 || x > width || y > height)
         return refuse(6);
     shift_at(x, y, &lat_shift, &lon_shift);
-    printf("ok83=%lld,%lld\n", 100 * lat + lat_shift, 100 * lon + lon_shift);
+    printf("ok83=%lld,%lld,%lld,%lld\n", 100 * lat + lat_shift.rounded, 100 * lon + lon_shift.rounded, lat_shift.sign, lon_shift.sign);
     return 1;
 }
 
@@ -89,18 +94,19 @@ static number hundredth(number v, number limit) {
 
 // Six rounds at most, and the point that they reach is the answer if its own answer is the figure.
 static int to27(number lat, number lon) {
-    number east = lon - 100 * west, north = lat - 100 * south, lat_shift, lon_shift;
+    number east = lon - 100 * west, north = lat - 100 * south;
+    struct shift lat_shift, lon_shift;
     number x = hundredth(east, width), y = hundredth(north, height);
     for (int k = 0; k < 6; k++) {
         shift_at(x, y, &lat_shift, &lon_shift);
-        number nx = hundredth(east - lon_shift, width), ny = hundredth(north - lat_shift, height);
+        number nx = hundredth(east - lon_shift.rounded, width), ny = hundredth(north - lat_shift.rounded, height);
         if (nx == x && ny == y)
             break;
         x = nx;
         y = ny;
     }
     shift_at(x, y, &lat_shift, &lon_shift);
-    if (100 * x + lon_shift != east || 100 * y + lat_shift != north)
+    if (100 * x + lon_shift.rounded != east || 100 * y + lat_shift.rounded != north)
         return refuse(7);
     printf("ok27=%lld,%lld\n", y + south, x + west);
     return 1;

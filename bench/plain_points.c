@@ -2,12 +2,20 @@
 // grid is trusted to pass the checks, every point to lie on the grid, and every NAD 83 figure to be the answer of a point.
 #include "points.h"
 
+// A shift, rounded, and the sign of the rounded shift minus the exact fraction.
+struct shift {
+    int64_t rounded, sign;
+};
+
 // The nearest whole number to a fraction, a tie going to the even one: an odd quotient takes twice the remainder one further from zero,
 // and that decides a tie. Without branches: the processor could not foretell them, and the time would depend on the signs of the shifts.
-static inline int64_t rounded(int64_t numerator, int64_t denominator) {
+static inline struct shift rounded(int64_t numerator, int64_t denominator) {
     int64_t q = numerator / denominator, r = numerator % denominator;
     int64_t twice = 2 * r + q % 2;
-    return q + (twice > denominator) - (twice < -denominator);
+    int64_t nearest = q + (twice > denominator) - (twice < -denominator);
+    int64_t difference = nearest * denominator - numerator;
+    int64_t above = difference > 0, below = difference < 0;
+    return (struct shift){nearest, above - below};
 }
 
 // Along one row of a cell, whose west node comes first.
@@ -16,7 +24,7 @@ static inline int64_t row_sum(const int64_t *shifts, int64_t a, int64_t b) {
 }
 
 // The shifts at the point x east and y north of the southwest corner.
-static inline void shift_at(const struct grid *grid, int64_t x, int64_t y, int64_t *lat, int64_t *lon) {
+static inline void shift_at(const struct grid *grid, int64_t x, int64_t y, struct shift *lat, struct shift *lon) {
     int64_t dlat = grid->header[2], dlon = grid->header[3], rows = grid->header[4], cols = grid->header[5];
     int64_t row = y / dlat, col = x / dlon;
     // the north and the east edge belong to the last cells
@@ -33,10 +41,12 @@ static inline void shift_at(const struct grid *grid, int64_t x, int64_t y, int64
 void plain_to83(const struct grid *grid, const int64_t *restrict points, int64_t *restrict answers, size_t n) {
     int64_t south = grid->header[0], west = grid->header[1];
     for (size_t k = 0; k < n; k++) {
-        int64_t lat, lon;
+        struct shift lat, lon;
         shift_at(grid, points[2 * k + 1] - west, points[2 * k] - south, &lat, &lon);
-        answers[2 * k] = 100 * points[2 * k] + lat;
-        answers[2 * k + 1] = 100 * points[2 * k + 1] + lon;
+        answers[4 * k] = 100 * points[2 * k] + lat.rounded;
+        answers[4 * k + 1] = 100 * points[2 * k + 1] + lon.rounded;
+        answers[4 * k + 2] = lat.sign;
+        answers[4 * k + 3] = lon.sign;
     }
 }
 
@@ -54,15 +64,15 @@ void plain_to27(const struct grid *grid, const int64_t *restrict points, int64_t
         int64_t north = points[2 * k] - 100 * south, east = points[2 * k + 1] - 100 * west;
         int64_t y = hundredth(north, height), x = hundredth(east, width);
         for (int round = 0; round < 6; round++) {
-            int64_t lat, lon;
+            struct shift lat, lon;
             shift_at(grid, x, y, &lat, &lon);
-            int64_t next_y = hundredth(north - lat, height), next_x = hundredth(east - lon, width);
+            int64_t next_y = hundredth(north - lat.rounded, height), next_x = hundredth(east - lon.rounded, width);
             if (next_y == y && next_x == x)
                 break;
             y = next_y;
             x = next_x;
         }
-        answers[2 * k] = y + south;
-        answers[2 * k + 1] = x + west;
+        answers[4 * k] = y + south;
+        answers[4 * k + 1] = x + west;
     }
 }

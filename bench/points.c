@@ -25,8 +25,9 @@ enum { MOST = 1000000, REPETITIONS = 11 };
 enum way { TO83, TO27, WAYS };
 enum { OURS, PLAIN, PROJ, CONVERTERS };
 
-// The points of a grid, their NAD 83 figures, and what each converter makes of them. PROJ converts in place: lats and lons.
-static int64_t points27[2 * MOST], points83[2 * MOST], answers[2 * MOST], plain_answers[2 * MOST];
+// The points of a grid, their NAD 83 figures, and what each converter makes of them, four numbers for each point. PROJ converts in place:
+// lats and lons.
+static int64_t points27[2 * MOST], points83[2 * MOST], answers[4 * MOST], plain_answers[4 * MOST];
 static uint8_t refusals[MOST], ways[WAYS][MOST];
 static double lats27[MOST], lons27[MOST], lats83[MOST], lons83[MOST], lats[MOST], lons[MOST];
 
@@ -103,7 +104,7 @@ static void to_radians(const int64_t *figures, double second, double *to_lats, d
 static void convert_ours(enum way way, const struct grid *grid, size_t from, size_t n) {
     const int64_t *points = way == TO83 ? points27 : points83;
     if (dagglehurst_convert(grid->header, 6, grid->lat, grid->nodes, grid->lon, grid->nodes, ways[way] + from, n, points + 2 * from, 2 * n,
-                            answers + 2 * from, 2 * n, refusals + from, n) != (uint64_t)n << 8)
+                            answers + 4 * from, 4 * n, refusals + from, n) != (uint64_t)n << 8)
         fail("Dagglehurst refuses");
 }
 
@@ -111,7 +112,7 @@ static void convert(int converter, enum way way, const struct grid *grid, size_t
     if (converter == OURS)
         convert_ours(way, grid, from, n);
     else if (converter == PLAIN)
-        (way == TO83 ? plain_to83 : plain_to27)(grid, (way == TO83 ? points27 : points83) + 2 * from, plain_answers + 2 * from, n);
+        (way == TO83 ? plain_to83 : plain_to27)(grid, (way == TO83 ? points27 : points83) + 2 * from, plain_answers + 4 * from, n);
     else
         (way == TO83 ? proj_to83 : proj_to27)(lats + from, lons + from, n);
 }
@@ -127,8 +128,8 @@ static void restore_proj_input(enum way way, size_t n) {
 static double proj_difference(enum way way) {
     double second = way == TO83 ? 1e5 : 1e3, greatest = 0;
     for (size_t k = 0; k < MOST; k++) {
-        double lat = fabs(lats[k] / pi * 648000 * second - (double)answers[2 * k]);
-        double lon = fabs(lons[k] / pi * 648000 * second - (double)answers[2 * k + 1]);
+        double lat = fabs(lats[k] / pi * 648000 * second - (double)answers[4 * k]);
+        double lon = fabs(lons[k] / pi * 648000 * second - (double)answers[4 * k + 1]);
         // written so that what is no number counts as beyond
         if (!(lat <= greatest))
             greatest = lat;
@@ -138,6 +139,20 @@ static double proj_difference(enum way way) {
     return greatest * 1e5 / second;
 }
 
+// The coordinates of the answers, without the signs.
+static void coordinates(int64_t *to) {
+    for (size_t k = 0; k < MOST; k++) {
+        to[2 * k] = answers[4 * k];
+        to[2 * k + 1] = answers[4 * k + 1];
+    }
+}
+
+static int answers_are_points27(void) {
+    static int64_t back[2 * MOST];
+    coordinates(back);
+    return memcmp(back, points27, sizeof back) == 0;
+}
+
 // Converts all points once with every converter, and compares. Answers PROJ's difference.
 static double agree(enum way way, const struct grid *grid) {
     convert(OURS, way, grid, 0, MOST);
@@ -145,9 +160,10 @@ static double agree(enum way way, const struct grid *grid) {
     for (size_t k = 0; k < MOST; k++)
         if (refusals[k] != 0)
             fail("Dagglehurst refuses a point");
+    // the signs too; on the way back those of the way there, which have to stay
     if (memcmp(answers, plain_answers, sizeof answers) != 0)
         fail("Dagglehurst and plain C differ");
-    if (way == TO27 && memcmp(answers, points27, sizeof answers) != 0)
+    if (way == TO27 && !answers_are_points27())
         fail("the way back does not lead to the points");
     if (!PROJ_INSTALLED)
         return 0;
@@ -167,10 +183,10 @@ static void prepare(const char *name, const struct grid *grid, const char *folde
     to_radians(points27, 1e3, lats27, lons27);
     proj_open(grid, folder);
     double there = agree(TO83, grid);
-    memcpy(points83, answers, sizeof answers);
+    coordinates(points83);
     to_radians(points83, 1e5, lats83, lons83);
     double back = agree(TO27, grid);
-    printf("%s grid, %zu nodes. Answers: plain C the same", name, grid->nodes);
+    printf("%s grid, %zu nodes. Answers and signs: plain C the same", name, grid->nodes);
     if (PROJ_INSTALLED)
         printf(", PROJ within %.4f (to83) and %.4f (to27)", there, back);
     printf("\n");

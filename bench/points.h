@@ -12,7 +12,8 @@ struct grid {
     size_t nodes;
 };
 
-// n points, latitude and longitude one after the other.
+// n points, latitude and longitude one after the other. Each answer has four places, as in dagglehurst.h: latitude, longitude and, to
+// NAD 83, the sign of each; the way back leaves the last two as they were.
 void plain_to83(const struct grid *grid, const int64_t *points, int64_t *answers, size_t n);
 void plain_to27(const struct grid *grid, const int64_t *points, int64_t *answers, size_t n);
 

@@ -5,6 +5,13 @@
  * FIGURES. Latitude is positive north, longitude positive EAST. A NAD 27 figure counts thousandths of an arc second, a NAD 83
  * figure hundred-thousandths.
  *
+ * SIGNS. The shift at a point is an exact fraction; in a NAD 83 figure it is rounded to a whole number. On the way to NAD 83 the
+ * answer has a sign for the latitude and one for the longitude: the sign of the rounded shift minus the exact fraction.
+ *   -1  the rounded shift is below the exact one: the figure lies south or west of the exact place
+ *    0  the answer's shift is exact
+ *    1  the rounded shift is above the exact one: the figure lies north or east of the exact place
+ * The way back takes the two coordinates alone and answers no signs.
+ *
  * A GRID is a header and two slices of shifts (NAD 83 minus NAD 27, in hundred-thousandths of an arc second).
  *   header    six numbers: south, west, dlat, dlon, rows, cols; edges and spacings in thousandths of an arc second. Numbers behind
  *             the sixth are not looked at. A number that a shorter slice does not have counts as 0, so a header of fewer than six
@@ -64,7 +71,7 @@ enum {
 #define DAGGLEHURST_LINE 65
 #define DAGGLEHURST_STATE 3
 /* No line of a list is longer, with its newline: room for so many bytes for each byte of a piece is always enough. */
-#define DAGGLEHURST_MAX_REPLY 47
+#define DAGGLEHURST_MAX_REPLY 53
 
 /* 0 where the call answered, or the number of the refusal. */
 static inline unsigned dagglehurst_refusal(uint64_t reply) { return (unsigned)(reply & 255); }
@@ -88,9 +95,10 @@ uint64_t dagglehurst_write(const int64_t *header, size_t header_length, const in
 uint64_t dagglehurst_check(const int64_t *header, size_t header_length, const int64_t *lat, size_t lat_length, const int64_t *lon,
                            size_t lon_length);
 
-/* Converts the NAD 27 point `north`, `east`. Writes its NAD 83 figure, latitude and longitude, to the front of `answer`: 100 times the
- * point plus the shift there, an exact fraction rounded to the nearest whole number, a tie to the even one. Answers 1.
- * Refuses 2, 5, 3, 4, 14, 6, then 8 (place 2) where `answer` has fewer than two elements. */
+/* Converts the NAD 27 point `north`, `east`. Writes four numbers to the front of `answer`: its NAD 83 figure, latitude and longitude,
+ * then the latitude's sign and the longitude's. The figure is 100 times the point plus the shift there, an exact fraction rounded to
+ * the nearest whole number, a tie to the even one. Answers 1.
+ * Refuses 2, 5, 3, 4, 14, 6, then 8 (place 4) where `answer` has fewer than four elements. */
 uint64_t dagglehurst_to83(const int64_t *header, size_t header_length, const int64_t *lat, size_t lat_length, const int64_t *lon,
                           size_t lon_length, int64_t north, int64_t east, int64_t *answer, size_t answer_length);
 
@@ -101,18 +109,20 @@ uint64_t dagglehurst_to27(const int64_t *header, size_t header_length, const int
                           size_t lon_length, int64_t north, int64_t east, int64_t *answer, size_t answer_length);
 
 /* Converts many requests, both ways, with one check of the grid. There are ways_length requests, n. Request k is the way ways[k] and
- * the latitude points[2k] and longitude points[2k + 1]. Where it has an answer, writes it to answers[2k] and answers[2k + 1], and 0
- * to refusals[k]; else leaves both answers as they were, and writes the number of its refusal to refusals[k]: 6 or 7, or 1 for a way
- * that does not exist. Answers n.
- * Refuses 2, 5, 3, 4, 14, with no requests too; then 8: with place 2n where `points` or `answers` has fewer than 2n elements, with n
- * where `refusals` has fewer than n. Numbers of `points` behind the first 2n are not looked at. */
+ * the latitude points[2k] and longitude points[2k + 1], and has the four places from answers[4k] on. Where it has an answer, writes
+ * latitude and longitude to answers[4k] and answers[4k + 1], and 0 to refusals[k]; on the way to NAD 83 also the latitude's sign to
+ * answers[4k + 2] and the longitude's to answers[4k + 3], which the way back leaves as they were. Where it has none, leaves all four
+ * as they were, and writes the number of its refusal to refusals[k]: 6 or 7, or 1 for a way that does not exist. Answers n.
+ * Refuses 2, 5, 3, 4, 14, with no requests too; then 8: with place 2n where `points` has fewer than 2n elements, with 4n where
+ * `answers` has fewer than 4n, with n where `refusals` has fewer than n. Numbers of `points` behind the first 2n are not looked at. */
 uint64_t dagglehurst_convert(const int64_t *header, size_t header_length, const int64_t *lat, size_t lat_length, const int64_t *lon,
                              size_t lon_length, const uint8_t *ways, size_t ways_length, const int64_t *points,
                              size_t points_length, int64_t *answers, size_t answers_length, uint8_t *refusals,
                              size_t refusals_length);
 
 /* Runs the list over request lines (`to83=LAT,LON` or `to27=LAT,LON`, each ended by a newline). Writes the whole list, from `sheet=`
- * to `done=`, to the front of `room`. Answers the number of bytes.
+ * to `done=`, to the front of `room`. A line that is answered gets `ok83=LAT,LON,SIGN,SIGN`, the latitude's sign first, or
+ * `ok27=LAT,LON`; one that is refused gets `no=` and the number of the refusal. Answers the number of bytes.
  * Refuses 2, 5, 3, 4, 14, then 8 (place: the bytes needed). */
 uint64_t dagglehurst_list(const int64_t *header, size_t header_length, const int64_t *lat, size_t lat_length, const int64_t *lon,
                           size_t lon_length, const uint8_t *requests, size_t requests_length, uint8_t *room, size_t room_length);

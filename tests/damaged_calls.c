@@ -156,13 +156,13 @@ static const char text[] = "from=NAD27\nto=NAD83\nsouth=117900000\nwest=-2988000
                            "node=53000,42000\nnode=57000,49000\nnode=51000,41000\nnode=57000,49000\nend=4\n";
 static const char requests[] = "to83=118210250,-298581930\nto27=11821079228,-29858147963\nto83=117899999,-298581930\n"
                                "to27=11821079229,-29858147963\nto83=1\n";
-static const char list[] = "sheet=4\nok83=11821079228,-29858147963\nok27=118210250,-298581930\nno=6\nno=7\nno=1\ndone=2,3\n";
+static const char list[] = "sheet=4\nok83=11821079228,-29858147963,1,1\nok27=118210250,-298581930\nno=6\nno=7\nno=1\ndone=2,3\n";
 
 
 /* The same list in pieces: its first line, a piece that ends one line and begins another, and its last lines. */
 static const char sheet_line[] = "sheet=4\n";
 static const char piece[] = "-298581930\nto27=11821079228,-29858147963\nto83=117899999,-298581930\nto83=1";
-static const char replies[] = "ok83=11821079228,-29858147963\nok27=118210250,-298581930\nno=6\n";
+static const char replies[] = "ok83=11821079228,-29858147963,1,1\nok27=118210250,-298581930\nno=6\n";
 static const char last_lines[] = "no=1\ndone=2,4\n";
 static const uint8_t line[DAGGLEHURST_LINE + 1] = "to83=118210250,", next_line[6] = "to83=1";
 static const int64_t state[DAGGLEHURST_STATE + 1] = {15, 7, 8, INT64_MIN}, next_state[DAGGLEHURST_STATE] = {6, 9, 9};
@@ -176,15 +176,23 @@ static const int64_t header[DAGGLEHURST_HEADER + 1] = {117900000, -298800000, 45
 static const int64_t lat[NODES + 1] = {53000, 57000, 51000, 57000, INT64_MAX};
 static const int64_t lon[NODES + 1] = {42000, 49000, 41000, 49000, INT64_MIN};
 
+/* On the way to NAD 83 the two signs stand behind the coordinates. */
 static const int64_t mast27[2] = {118210250, -298581930};
-static const int64_t mast83[2] = {11821079228, -29858147963};
+static const int64_t mast83[4] = {11821079228, -29858147963, 1, 1};
 
-/* Both ways, mixed, and ways that do not exist. Where a request is refused, its two answers stay. */
+/* Both ways, mixed, and ways that do not exist. Each request has four places for its answer. On the way back the last two stay, since
+ * there are no signs; where a request is refused, all four stay. */
 static const uint8_t ways[POINTS] = {DAGGLEHURST_TO83, 0, DAGGLEHURST_TO27, DAGGLEHURST_TO83, 3, DAGGLEHURST_TO27, 255};
 static const int64_t points[2 * POINTS] = {118210250, -298581930, 118210250, -298581930, 11821079228, -29858147963, INT64_MIN,
                                            INT64_MAX, 118350000, -298350000, INT64_MIN, INT64_MAX, 11821079228, -29858147963};
-static const int64_t stood[2 * POINTS + 1] = {-1, -2, -3, -4, -5, -6, -7, -8, -9, -10, -11, -12, -13, -14, -15};
-static const int64_t answers[2 * POINTS] = {11821079228, -29858147963, -3, -4, 118210250, -298581930, -7, -8, -9, -10, -11, -12, -13, -14};
+static const int64_t stood[4 * POINTS + 1] = {
+    -10, -11, -12, -13, -20, -21, -22, -23, -30, -31, -32, -33, -40, -41, -42, -43,
+    -50, -51, -52, -53, -60, -61, -62, -63, -70, -71, -72, -73, -80,
+};
+static const int64_t answers[4 * POINTS] = {
+    11821079228, -29858147963, 1, 1, -20, -21, -22, -23, 118210250, -298581930, -32, -33, -40, -41, -42, -43,
+    -50, -51, -52, -53, -60, -61, -62, -63, -70, -71, -72, -73,
+};
 static const uint8_t refusals[POINTS] = {0, 1, 0, 6, 1, 7, 1};
 
 /* A slice that is only read, and one that is written and has an element more than needed. */
@@ -201,10 +209,10 @@ static const struct call undamaged[FUNCTIONS] = {
      0, 0, LAST_LINES},
     {WRITE, {READS_GRID, [OUTPUT] = WRITES(text, TEXT)}, 0, 0, TEXT},
     {CHECK, {READS_GRID}, 0, 0, NODES},
-    {TO83, {READS_GRID, [OUTPUT] = WRITES(mast83, 2)}, 118210250, -298581930, 1},
+    {TO83, {READS_GRID, [OUTPUT] = WRITES(mast83, 4)}, 118210250, -298581930, 1},
     {TO27, {READS_GRID, [OUTPUT] = WRITES(mast27, 2)}, 11821079228, -29858147963, 1},
     {CONVERT,
-     {READS_GRID, READS(ways, POINTS), READS(points, 2 * POINTS), WRITES_OVER(stood, answers, 2 * POINTS), WRITES(refusals, POINTS)},
+     {READS_GRID, READS(ways, POINTS), READS(points, 2 * POINTS), WRITES_OVER(stood, answers, 4 * POINTS), WRITES(refusals, POINTS)},
      0, 0, POINTS},
     {LIST, {READS_GRID, [INPUT] = READS(requests, REQUESTS), WRITES(list, ALL_LIST)}, 0, 0, ALL_LIST},
     {BEGIN, {READS_GRID, [OUTPUT] = WRITES(sheet_line, SHEET_LINE)}, 0, 0, SHEET_LINE},
@@ -241,10 +249,11 @@ static const struct {
     {READ, LAT, 0, 5, 4}, {READ, LAT, 3, 5, 4}, {READ, LON, 0, 5, 4}, {READ, LON, 3, 5, 4},
     {READ, INPUT, 0, 1, 1}, {READ, INPUT, TEXT - 1, 1, 13},
     {WRITE, OUTPUT, 0, 8, TEXT}, {WRITE, OUTPUT, 1, 8, TEXT}, {WRITE, OUTPUT, TEXT - 1, 8, TEXT},
-    {TO83, OUTPUT, 0, 8, 2}, {TO83, OUTPUT, 1, 8, 2},
+    {TO83, OUTPUT, 0, 8, 4}, {TO83, OUTPUT, 1, 8, 4}, {TO83, OUTPUT, 2, 8, 4}, {TO83, OUTPUT, 3, 8, 4},
     {TO27, OUTPUT, 0, 8, 2}, {TO27, OUTPUT, 1, 8, 2},
     {CONVERT, INPUT, 0, 8, 2 * POINTS}, {CONVERT, INPUT, 1, 8, 2 * POINTS}, {CONVERT, INPUT, 2 * POINTS - 1, 8, 2 * POINTS},
-    {CONVERT, OUTPUT, 0, 8, 2 * POINTS}, {CONVERT, OUTPUT, 1, 8, 2 * POINTS}, {CONVERT, OUTPUT, 2 * POINTS - 1, 8, 2 * POINTS},
+    {CONVERT, OUTPUT, 0, 8, 4 * POINTS}, {CONVERT, OUTPUT, 1, 8, 4 * POINTS}, {CONVERT, OUTPUT, 2 * POINTS, 8, 4 * POINTS},
+    {CONVERT, OUTPUT, 4 * POINTS - 2, 8, 4 * POINTS}, {CONVERT, OUTPUT, 4 * POINTS - 1, 8, 4 * POINTS},
     {CONVERT, REFUSALS, 0, 8, POINTS}, {CONVERT, REFUSALS, 1, 8, POINTS}, {CONVERT, REFUSALS, POINTS - 1, 8, POINTS},
     {LIST, OUTPUT, 0, 8, ALL_LIST}, {LIST, OUTPUT, 1, 8, ALL_LIST}, {LIST, OUTPUT, ALL_LIST - 1, 8, ALL_LIST},
     {BEGIN, OUTPUT, 0, 8, SHEET_LINE}, {BEGIN, OUTPUT, 1, 8, SHEET_LINE}, {BEGIN, OUTPUT, SHEET_LINE - 1, 8, SHEET_LINE},
@@ -305,10 +314,17 @@ static void test_fewer_ways(void) {
     for (size_t n = 0; n < POINTS; n++) {
         struct call call = undamaged[CONVERT];
         call.slices[WAYS].length = n;
-        call.slices[OUTPUT].after_length = 2 * n;
+        call.slices[OUTPUT].after_length = 4 * n;
         call.slices[REFUSALS].after_length = n;
         expect_answer(&call, "fewer ways", n);
     }
+}
+
+/* The way back has no signs, so an answer that has room for them keeps what stands there. */
+static void test_no_signs_back(void) {
+    struct call call = undamaged[TO27];
+    call.slices[OUTPUT].length = 4;
+    expect_answer(&call, "room for signs", 1);
 }
 
 /* ---- Lists that no call has left ---- */
@@ -577,10 +593,11 @@ static void test_order(void) {
 
     struct call call = undamaged[CONVERT];
     call.slices[REFUSALS].length = 0;
-    call.slices[OUTPUT].length = 2 * POINTS - 1;
-    expect_refusal(call, "answers, and refusals", 8, 2 * POINTS);
-    call.slices[OUTPUT] = undamaged[CONVERT].slices[OUTPUT];
+    call.slices[OUTPUT].length = 4 * POINTS - 1;
+    expect_refusal(call, "answers, and refusals", 8, 4 * POINTS);
     call.slices[INPUT].length = 2 * POINTS - 1;
+    expect_refusal(call, "points, answers, and refusals", 8, 2 * POINTS);
+    call.slices[OUTPUT] = undamaged[CONVERT].slices[OUTPUT];
     expect_refusal(call, "points, and refusals", 8, 2 * POINTS);
 
     static const enum function of_lists[] = {FEED, FINISH};
@@ -607,6 +624,7 @@ int main(void) {
     test_nothing_lent();
     test_empty_input();
     test_fewer_ways();
+    test_no_signs_back();
     test_lists();
     test_headers();
     test_nodes();

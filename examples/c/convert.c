@@ -20,15 +20,28 @@ static uint64_t read_grid(size_t text_length) {
     return dagglehurst_read(text, text_length, header, DAGGLEHURST_HEADER, lat, DAGGLEHURST_MAX_NODES, lon, DAGGLEHURST_MAX_NODES);
 }
 
-/* Prints the point or the refusal that a call left. */
-static void show(const char *what, uint64_t reply, const int64_t *point) {
+static void show_refusal(const char *what, uint64_t reply) {
+    printf("%s: refusal %u, place %llu\n", what, dagglehurst_refusal(reply), (unsigned long long)dagglehurst_value(reply));
+}
+
+/* Prints the NAD 27 point or the refusal that a call left. */
+static void show27(const char *what, uint64_t reply, const int64_t *point) {
     if (dagglehurst_refusal(reply) == 0)
         printf("%s: %lld,%lld\n", what, (long long)point[0], (long long)point[1]);
     else
-        printf("%s: refusal %u, place %llu\n", what, dagglehurst_refusal(reply), (unsigned long long)dagglehurst_value(reply));
+        show_refusal(what, reply);
 }
 
-/* An array is converted with one check of the grid. Each point has a way and a refusal of its own. */
+/* Prints the NAD 83 figure with its two signs, the latitude's first, or the refusal. A sign is read so: -1, the rounded shift is below
+ * the exact one; 0, the shift is exact; 1, the rounded shift is above the exact one. */
+static void show83(const char *what, uint64_t reply, const int64_t *figure) {
+    if (dagglehurst_refusal(reply) == 0)
+        printf("%s: %lld,%lld signs %d,%d\n", what, (long long)figure[0], (long long)figure[1], (int)figure[2], (int)figure[3]);
+    else
+        show_refusal(what, reply);
+}
+
+/* An array is converted with one check of the grid. Each point has a way and a refusal of its own, and four numbers for its answer. */
 static void show_array(size_t nodes) {
     const uint8_t ways[POINTS] = {DAGGLEHURST_TO83, DAGGLEHURST_TO83, DAGGLEHURST_TO83, DAGGLEHURST_TO83};
     const int64_t points[2 * POINTS] = {
@@ -37,15 +50,16 @@ static void show_array(size_t nodes) {
         118350001, -298350000, /* a thousandth of an arc second north of the grid */
         118350000, -298350000, /* the northeast corner */
     };
-    int64_t answers[2 * POINTS];
+    int64_t answers[4 * POINTS];
     uint8_t refusals[POINTS];
 
     uint64_t reply = dagglehurst_convert(header, DAGGLEHURST_HEADER, lat, nodes, lon, nodes, ways, POINTS, points, 2 * POINTS,
-                                         answers, 2 * POINTS, refusals, POINTS);
+                                         answers, 4 * POINTS, refusals, POINTS);
     printf("array: %llu points\n", (unsigned long long)dagglehurst_value(reply));
     for (size_t k = 0; k < POINTS; k++) {
+        const int64_t *answer = answers + 4 * k;
         if (refusals[k] == 0)
-            printf("point %zu: %lld,%lld\n", k, (long long)answers[2 * k], (long long)answers[2 * k + 1]);
+            printf("point %zu: %lld,%lld signs %d,%d\n", k, (long long)answer[0], (long long)answer[1], (int)answer[2], (int)answer[3]);
         else
             printf("point %zu: refusal %u\n", k, refusals[k]);
     }
@@ -68,19 +82,19 @@ int main(int argc, char **argv) {
     }
     printf("grid: %zu nodes\n", nodes);
 
-    int64_t figure[2] = {0, 0}, point[2] = {0, 0};
-    reply = dagglehurst_to83(header, DAGGLEHURST_HEADER, lat, nodes, lon, nodes, 118210250, -298581930, figure, 2);
-    show("mast in NAD 83", reply, figure);
+    int64_t figure[4] = {0, 0, 0, 0}, point[2] = {0, 0};
+    reply = dagglehurst_to83(header, DAGGLEHURST_HEADER, lat, nodes, lon, nodes, 118210250, -298581930, figure, 4);
+    show83("mast in NAD 83", reply, figure);
     reply = dagglehurst_to27(header, DAGGLEHURST_HEADER, lat, nodes, lon, nodes, figure[0], figure[1], point, 2);
-    show("mast taken back", reply, point);
+    show27("mast taken back", reply, point);
     reply = dagglehurst_to27(header, DAGGLEHURST_HEADER, lat, nodes, lon, nodes, figure[0] + 1, figure[1], point, 2);
-    show("one figure north", reply, point);
+    show27("one figure north", reply, point);
 
     show_array(nodes);
 
     /* A semicolon for the first comma: line 9, the first node, is no longer of its form. */
     uint8_t *comma = memchr(text, ',', text_length);
     *comma = ';';
-    show("damaged text", read_grid(text_length), NULL);
+    show_refusal("damaged text", read_grid(text_length));
     return 0;
 }

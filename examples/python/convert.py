@@ -44,10 +44,18 @@ def call(name, *arguments):
     return reply >> 8
 
 
-def convert(name, grid, north, east):
+def to83(grid, north, east):
+    """Returns the NAD 83 figure, latitude and longitude, and the two signs of its shifts, the latitude's first. A sign is read so:
+    -1, the rounded shift is below the exact one; 0, the shift is exact; 1, the rounded shift is above the exact one."""
+    answer = (c_int64 * 4)()
+    call("to83", *grid, north, east, answer)
+    return answer
+
+
+def to27(grid, north, east):
     answer = (c_int64 * 2)()
-    call(name, *grid, north, east, answer)
-    return answer[0], answer[1]
+    call("to27", *grid, north, east, answer)
+    return answer
 
 
 def show(what, function, *arguments):
@@ -63,18 +71,20 @@ text = Path(sys.argv[1]).read_bytes()
 grid = (c_int64 * 6)(), (c_int64 * 2048)(), (c_int64 * 2048)()
 print("grid:", call("read", (c_uint8 * len(text))(*text), *grid), "nodes")
 
-north, east = convert("to83", grid, 118210250, -298581930)
-print(f"mast in NAD 83: {north},{east}")
-show("mast taken back", convert, "to27", grid, north, east)
-show("one figure north", convert, "to27", grid, north + 1, east)
+north, east, lat_sign, lon_sign = to83(grid, 118210250, -298581930)
+print(f"mast in NAD 83: {north},{east} signs {lat_sign},{lon_sign}")
+show("mast taken back", to27, grid, north, east)
+show("one figure north", to27, grid, north + 1, east)
 
-# Southwest corner, middle of the cell, a thousandth of an arc second off the grid, northeast corner. Each has a way and a refusal of its own.
+# Southwest corner, middle of the cell, a thousandth of an arc second off the grid, northeast corner. Each has a way and a refusal of its
+# own, and four numbers for its answer.
 ways = (c_uint8 * 4)(TO83, TO83, TO83, TO83)
 points = (c_int64 * 8)(117900000, -298800000, 118125000, -298575000, 118350001, -298350000, 118350000, -298350000)
-answers, refusals = (c_int64 * 8)(), (c_uint8 * 4)()
+answers, refusals = (c_int64 * 16)(), (c_uint8 * 4)()
 print("array:", call("convert", *grid, ways, points, answers, refusals), "points")
 for k, refusal in enumerate(refusals):
-    print(f"point {k}:", f"refusal {refusal}" if refusal else f"{answers[2 * k]},{answers[2 * k + 1]}")
+    north, east, lat_sign, lon_sign = answers[4 * k : 4 * k + 4]
+    print(f"point {k}:", f"refusal {refusal}" if refusal else f"{north},{east} signs {lat_sign},{lon_sign}")
 
 # A semicolon for the first comma: line 9, the first node, is no longer of its form.
 damaged = text.replace(b",", b";", 1)

@@ -3,7 +3,7 @@
 use crate::coverage::{Call, Coverage};
 use crate::lent::{Element, Lent};
 use crate::library::{self, Batch, GridMemory};
-use crate::model::{self, refuse, Grid, Refusal, Reply, TO27, TO83};
+use crate::model::{self, refuse, Answer, Grid, Refusal, Reply, TO27, TO83};
 use crate::model_text::{self, Content};
 
 /// A grid lent to the library, and the model's verdict on it: the number of nodes or a refusal.
@@ -62,6 +62,18 @@ const EMPTY_LISTS: [(u8, &str); 5] = [
     (3, "list: no lines, refused 3"),
     (4, "list: no lines, refused 4"),
     (14, "list: no lines, refused 14"),
+];
+
+/// The signs -1, 0 and 1 of the latitude and of the longitude.
+type Signs = [[&'static str; 3]; 2];
+
+const BATCH_SIGNS: Signs = [
+    ["batch: latitude sign -1", "batch: latitude sign 0", "batch: latitude sign 1"],
+    ["batch: longitude sign -1", "batch: longitude sign 0", "batch: longitude sign 1"],
+];
+const LIST_SIGNS: Signs = [
+    ["list: latitude sign -1", "list: latitude sign 0", "list: latitude sign 1"],
+    ["list: longitude sign -1", "list: longitude sign 0", "list: longitude sign 1"],
 ];
 
 pub struct Bench {
@@ -221,20 +233,21 @@ impl Bench {
     }
 
     /// Compares the conversion of one point or, for `Call::To27`, of one figure.
-    pub fn one(&mut self, call: Call, case: &Case, point: [i64; 2], room: Option<usize>) -> Reply<[i64; 2]> {
+    pub fn one(&mut self, call: Call, case: &Case, point: [i64; 2], room: Option<usize>) -> Reply<Answer> {
         let mut answer = Lent::room(room);
         let [header, lat, lon] = nulls_of(&case.memory);
         self.coverage.lent(call, &[header, lat, lon, answer.is_null()]);
         let way = if call == Call::To83 { TO83 } else { TO27 };
         let converted = case.grid().and_then(|grid| grid.convert(way, point));
-        let expected = if converted.is_ok() && answer.len() < 2 { refuse(8, 2) } else { converted };
+        let fits = |numbers: Vec<i64>| if answer.len() < numbers.len() { refuse(8, numbers.len()) } else { Ok(numbers) };
+        let expected = converted.and_then(|found| fits(found.numbers()));
         let got = match call {
             Call::To83 => library::to83(&case.memory, point, &mut answer),
             _ => library::to27(&case.memory, point, &mut answer),
         };
         let account = || format!("point or figure {point:?}, {}, answer {room:?}", case.account());
-        self.reply(call, &expected.map(|_| 1), got, account);
-        self.written(call, &answer, expected.as_ref().map_or(&[], |found| &found[..]), account);
+        self.reply(call, &expected.as_ref().map(|_| 1).map_err(|&refusal| refusal), got, account);
+        self.written(call, &answer, &expected.unwrap_or_default(), account);
         self.untouched(call, case.unchanged(), account);
         converted
     }
@@ -256,7 +269,7 @@ impl Bench {
         ways: Option<&[u8]>,
         points: Option<&[i64]>,
         rooms: [Option<usize>; 2],
-        known: &[Reply<[i64; 2]>],
+        known: &[Reply<Answer>],
     ) {
         let call = Call::Convert;
         let (answers, refusals) = (Lent::room(rooms[0]), Lent::room(rooms[1]));
@@ -265,14 +278,16 @@ impl Bench {
         let expected = case.verdict.and_then(|_| self.enough(&batch));
         let (mut answers, mut marks) = (Vec::new(), Vec::new());
         if expected.is_ok() {
-            answers = batch.answers.original()[..2 * known.len()].to_vec();
+            // Four places for each request: a refused one leaves all of them as they were, the way back the last two.
+            answers = batch.answers.original()[..4 * known.len()].to_vec();
             marks = vec![0; known.len()];
             for (k, converted) in known.iter().enumerate() {
-                match converted {
-                    Ok(answer) => answers[2 * k..2 * k + 2].copy_from_slice(answer),
+                match converted.map(|answer| answer.numbers()) {
+                    Ok(numbers) => answers[4 * k..4 * k + numbers.len()].copy_from_slice(&numbers),
                     Err(refusal) => marks[k] = refusal.number,
                 }
             }
+            self.mark_signs(BATCH_SIGNS, known.iter().flatten().filter_map(|answer| answer.signs));
         }
         self.mark_batch(&batch, &expected, &marks);
         let got = library::convert(&case.memory, &mut batch);
@@ -299,26 +314,32 @@ impl Bench {
         if found.starts_with(answers) && flags.starts_with(marks) {
             return;
         }
-        let differs = |k: &usize| found[2 * k..2 * k + 2] != answers[2 * k..2 * k + 2] || flags[*k] != marks[*k];
+        let differs = |k: &usize| found[4 * k..4 * k + 4] != answers[4 * k..4 * k + 4] || flags[*k] != marks[*k];
         if let Some(k) = (0..marks.len()).find(differs) {
-            let (way, pair) = (batch.ways.original()[k], 2 * k..2 * k + 2);
-            let input = format!("way {way}, {:?}, request {k}, {}", &points[pair.clone()], case.account());
+            let (way, places) = (batch.ways.original()[k], 4 * k..4 * k + 4);
+            let input = format!("way {way}, {:?}, request {k}, {}", &points[2 * k..2 * k + 2], case.account());
             let told = |answer: &[i64], mark: u8| format!("{answer:?} refusal {mark}");
-            fail(Call::Convert, &input, &told(&answers[pair.clone()], marks[k]), &told(&found[pair], flags[k]));
+            fail(Call::Convert, &input, &told(&answers[places.clone()], marks[k]), &told(&found[places], flags[k]));
         }
     }
 
     /// Whether the slices of a batch are long enough for its ways.
     fn enough(&mut self, batch: &Batch) -> Reply<u64> {
         let count = batch.ways.len();
-        let (short_points, short_answers) = (batch.points.len() < 2 * count, batch.answers.len() < 2 * count);
+        let (short_points, short_answers) = (batch.points.len() < 2 * count, batch.answers.len() < 4 * count);
+        let short_refusals = batch.refusals.len() < count;
         self.coverage.mark_if(short_points, "batch: points too short");
         self.coverage.mark_if(short_answers && !short_points, "batch: answers too short");
+        self.coverage.mark_if(short_points && short_answers, "batch: points and answers too short");
+        self.coverage.mark_if(short_answers && short_refusals && !short_points, "batch: answers and refusals too short");
         self.coverage.mark_if(batch.points.len() > 2 * count, "batch: points longer than needed");
-        if short_points || short_answers {
+        if short_points {
             return refuse(8, 2 * count);
         }
-        if batch.refusals.len() < count {
+        if short_answers {
+            return refuse(8, 4 * count);
+        }
+        if short_refusals {
             self.coverage.mark("batch: refusals too short");
             return refuse(8, count);
         }
@@ -337,6 +358,15 @@ impl Bench {
         if ways.is_empty() {
             self.coverage.mark_if(expected.is_ok(), "batch: no requests");
             self.mark_refused(expected, EMPTY_BATCHES);
+        }
+    }
+
+    /// Marks each sign that an answer has.
+    fn mark_signs(&mut self, names: Signs, signs: impl Iterator<Item = [i64; 2]> + Clone) {
+        for (component, names) in names.iter().enumerate() {
+            for (sign, name) in (-1..=1).zip(names) {
+                self.coverage.mark_if(signs.clone().any(|signs| signs[component] == sign), name);
+            }
         }
     }
 
@@ -373,6 +403,7 @@ impl Bench {
         if requests.original().is_empty() {
             self.mark_refused(&expected, EMPTY_LISTS);
         }
+        self.mark_signs(LIST_SIGNS, front.lines().filter_map(model_text::signs_of));
         if let Ok((_, refused)) = made {
             self.mark_list(requests.original(), refused);
         }

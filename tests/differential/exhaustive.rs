@@ -4,7 +4,7 @@
 use crate::compare::{fail, Bench, Case};
 use crate::coverage::Call;
 use crate::grids::{self, Plain};
-use crate::model::{refuse, Reply, TO27, TO83};
+use crate::model::{refuse, Answer, Reply, TO27, TO83};
 use crate::random::Random;
 
 /// Figures and their points, in the order of the figures.
@@ -34,17 +34,18 @@ pub fn compare(bench: &mut Bench, random: &mut Random, plain: &Plain) {
     bench.coverage.mark("grid: every tiny point mapped");
 }
 
-/// Compares every point of the grid row by row. Two points never share a figure; were it so, the way back would not be defined.
+/// Compares every point of the grid row by row. Two points never share a figure; were it so, the way back would not be defined. A
+/// figure is its two coordinates: the signs of the answers are compared and then left out.
 fn map_all(bench: &mut Bench, case: &Case, plain: &Plain) -> Map {
     let [south, west, dlat, dlon, rows, cols] = plain.header[..] else { unreachable!("a header has six numbers") };
     let Ok(grid) = case.grid() else { unreachable!("the grid passes") };
     let mut map = Map::new();
     for lat in south..=south + (rows - 1) * dlat {
         let points: Vec<[i64; 2]> = (west..=west + (cols - 1) * dlon).map(|lon| [lat, lon]).collect();
-        let answers: Vec<Reply<[i64; 2]>> = points.iter().map(|&point| grid.to83(point)).collect();
-        let rooms = [Some(2 * points.len()), Some(points.len())];
+        let answers: Vec<Reply<Answer>> = points.iter().map(|&point| grid.convert(TO83, point)).collect();
+        let rooms = [Some(4 * points.len()), Some(points.len())];
         bench.batch_known(case, Some(&vec![TO83; points.len()]), Some(&points.concat()), rooms, &answers);
-        map.extend(answers.iter().flatten().copied().zip(points));
+        map.extend(answers.iter().flatten().map(|answer| answer.coordinates).zip(points));
     }
     map.sort_unstable();
     if let Some(pair) = map.windows(2).find(|pair| pair[0].0 == pair[1].0) {
@@ -69,8 +70,9 @@ fn looked_up(map: &Map, figure: [i64; 2]) -> Reply<[i64; 2]> {
 }
 
 fn take_back(bench: &mut Bench, case: &Case, map: &Map, figures: &[i64]) {
-    let known: Vec<_> = figures.chunks_exact(2).map(|pair| looked_up(map, [pair[0], pair[1]])).collect();
-    bench.batch_known(case, Some(&vec![TO27; known.len()]), Some(figures), [Some(figures.len()), Some(known.len())], &known);
+    let known: Vec<_> = figures.chunks_exact(2).map(|pair| looked_up(map, [pair[0], pair[1]]).map(Answer::back)).collect();
+    let rooms = [Some(4 * known.len()), Some(known.len())];
+    bench.batch_known(case, Some(&vec![TO27; known.len()]), Some(figures), rooms, &known);
 }
 
 /// Along all four edges, the answer of every point and the figures next to it.

@@ -7,7 +7,7 @@ use crate::random::Random;
 use crate::{pieces, points};
 
 /// Lines that are not of the form, or are so only just.
-const LINES: [&str; 40] = [
+const LINES: [&str; 42] = [
     "",
     " ",
     "to83",
@@ -29,6 +29,8 @@ const LINES: [&str; 40] = [
     "to27=",
     "to28=1,2",
     "ok83=1,2",
+    "ok83=1,2,0,0",
+    "to27=0,0,0,0",
     "to83=+1,2",
     "to83=1,+2",
     "to83=01,2",

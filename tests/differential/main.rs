@@ -19,6 +19,7 @@ mod pieces;
 mod points;
 mod random;
 mod run;
+mod signs;
 mod texts;
 mod ties;
 

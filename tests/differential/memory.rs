@@ -38,13 +38,14 @@ pub fn grid_slices(bench: &mut Bench, random: &mut Random, plain: &Plain) {
     }
 }
 
-/// Answer slices of every length, for points on and off the grid and for figures that are answers and are not.
+/// Answer slices of every length, for points on and off the grid and for figures that are answers and are not. To NAD 83 four
+/// numbers are written; on the way back two, and places for two more stay as they were.
 pub fn answer_slices(bench: &mut Bench, plain: &Plain) {
     let case = Case::of(&plain.header, &plain.lat, &plain.lon);
     let on = [plain.header[0], plain.header[1]];
     let off = [plain.header[0] - 1, plain.header[1]];
     let figure = case.grid().and_then(|grid| grid.to83(on)).unwrap_or([0, 0]);
-    for length in lengths(2) {
+    for length in std::iter::once(None).chain((0..8).map(Some)) {
         for (call, point) in [(Call::To83, on), (Call::To83, off), (Call::To27, figure), (Call::To27, off)] {
             let _ = bench.one(call, &case, point, length);
         }
@@ -62,7 +63,7 @@ pub fn batch_slices(bench: &mut Bench, plain: &Plain) {
     for count in (0..=ways.len()).map(Some).chain([None]) {
         let needed = count.unwrap_or(0);
         for (points, answers) in
-            lengths(2 * needed).into_iter().flat_map(|a| lengths(2 * needed).into_iter().map(move |b| (a, b)))
+            lengths(2 * needed).into_iter().flat_map(|a| lengths(4 * needed).into_iter().map(move |b| (a, b)))
         {
             let points = resized(&numbers, points);
             for refusals in lengths(needed) {

@@ -17,6 +17,25 @@ pub fn refuse<T>(number: u8, place: usize) -> Reply<T> {
     Err(Refusal { number, place: place as u64 })
 }
 
+/// What a request is answered: latitude and longitude and, on the way to NAD 83, a sign for each of them.
+#[derive(Clone, Copy, Debug, PartialEq)]
+pub struct Answer {
+    pub coordinates: [i64; 2],
+    pub signs: Option<[i64; 2]>,
+}
+
+impl Answer {
+    /// The way back has no signs.
+    pub fn back(coordinates: [i64; 2]) -> Answer {
+        Answer { coordinates, signs: None }
+    }
+
+    /// The numbers in the order in which they are written.
+    pub fn numbers(&self) -> Vec<i64> {
+        [&self.coordinates[..], self.signs.as_ref().map_or(&[], |signs| &signs[..])].concat()
+    }
+}
+
 /// The ways of the C header.
 pub const TO83: u8 = 1;
 pub const TO27: u8 = 2;
@@ -166,7 +185,7 @@ impl<'a> Grid<'a> {
         self.south <= lat && lat <= self.north() && self.west <= lon && lon <= self.east()
     }
 
-    /// The NAD 83 figure of a NAD 27 point.
+    /// The coordinates of the NAD 83 figure of a NAD 27 point.
     pub fn to83(&self, point: [i64; 2]) -> Reply<[i64; 2]> {
         let [lat, lon] = point.map(i128::from);
         if !self.holds(lat, lon) {
@@ -175,11 +194,17 @@ impl<'a> Grid<'a> {
         Ok([self.lat_figure(lat, lon) as i64, self.lon_figure(lat, lon) as i64])
     }
 
-    /// One request of a batch. A way that does not exist is refused 1.
-    pub fn convert(&self, way: u8, numbers: [i64; 2]) -> Reply<[i64; 2]> {
+    /// For the latitude and the longitude shift at a point on the grid, the sign of the rounded shift minus the exact fraction.
+    fn signs(&self, point: [i64; 2]) -> [i64; 2] {
+        let [lat, lon] = point.map(i128::from);
+        [self.lat_fraction(lat, lon), self.lon_fraction(lat, lon)].map(sign)
+    }
+
+    /// One request. A way that does not exist is refused 1.
+    pub fn convert(&self, way: u8, numbers: [i64; 2]) -> Reply<Answer> {
         match way {
-            TO83 => self.to83(numbers),
-            TO27 => self.to27(numbers),
+            TO83 => self.to83(numbers).map(|coordinates| Answer { coordinates, signs: Some(self.signs(numbers)) }),
+            TO27 => self.to27(numbers).map(Answer::back),
             _ => refuse(1, 0),
         }
     }
@@ -232,6 +257,12 @@ fn nearest((numerator, denominator): (i128, i128)) -> i128 {
         Ordering::Greater => above,
         Ordering::Equal => [below, above].into_iter().find(|whole| whole % 2 == 0).expect("one of two neighbours is even"),
     }
+}
+
+/// The sign of the rounded shift minus the exact fraction. The denominator is above zero, so both can be multiplied by it.
+pub fn sign((numerator, denominator): (i128, i128)) -> i64 {
+    let rounded = nearest((numerator, denominator));
+    (rounded * denominator - numerator).signum() as i64
 }
 
 /// The coordinates between two edges that can have `figure`: 100 times the coordinate is within the largest shift of it.

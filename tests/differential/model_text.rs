@@ -1,6 +1,6 @@
 //! The text side of the paper, implemented a second time: the reader, the writer and the list.
 
-use crate::model::{check, in_range, refuse, Grid, Reply};
+use crate::model::{check, in_range, refuse, Answer, Grid, Reply, TO27, TO83};
 
 /// What a text holds when it is accepted.
 pub struct Content {
@@ -107,15 +107,27 @@ fn request(line: &[u8]) -> Option<Request> {
     to83.or_else(|| named_pair(line, b"to27=").map(Request::To27))
 }
 
+/// `ok83=LAT,LON,SIGN,SIGN`, the latitude's sign first, or `ok27=LAT,LON`.
+fn answer_line(word: &str, answer: Answer) -> String {
+    let numbers: Vec<String> = answer.numbers().iter().map(i64::to_string).collect();
+    format!("{word}={}\n", numbers.join(","))
+}
+
+/// The signs in a line of the list, if it is an answer that has signs.
+pub fn signs_of(line: &str) -> Option<[i64; 2]> {
+    let mut signs = line.strip_prefix("ok83=")?.split(',').skip(2).map(|sign| sign.parse().ok());
+    Some([signs.next()??, signs.next()??])
+}
+
 /// The reply to a line that still has its newline, if it has one: its text, and the number of the refusal or 0.
 fn reply(grid: &Grid, line: &[u8]) -> (String, u8) {
     let (word, answer) = match request(line) {
         None => ("", refuse(1, 0)),
-        Some(Request::To83(point)) => ("ok83", grid.to83(point)),
-        Some(Request::To27(figure)) => ("ok27", grid.to27(figure)),
+        Some(Request::To83(point)) => ("ok83", grid.convert(TO83, point)),
+        Some(Request::To27(figure)) => ("ok27", grid.convert(TO27, figure)),
     };
     match answer {
-        Ok([lat, lon]) => (format!("{word}={lat},{lon}\n"), 0),
+        Ok(answer) => (answer_line(word, answer), 0),
         Err(refusal) => (format!("no={}\n", refusal.number), refusal.number),
     }
 }

@@ -10,7 +10,7 @@ use crate::model_text::{self, Sitting, LINE, STATE};
 use crate::random::Random;
 
 /// No line of a list is longer.
-const MAX_REPLY: usize = 47;
+const MAX_REPLY: usize = 53;
 
 /// What is lent as a list: the bytes of its line, and its numbers. `None` lends NULL.
 #[derive(Clone)]
@@ -286,7 +286,7 @@ pub fn spoilt_behind_a_piece(bench: &mut Bench) {
             }
         }
         let answer = bench.feed(&good, &mut memory, Some(b"00\n"), Some);
-        if answer.as_deref() != Ok(b"ok83=0,50000\n") {
+        if answer.as_deref() != Ok(b"ok83=0,50000,-1,1\n") {
             fail(Call::Feed, "sheet Q again, as it is", "the line's answer", &format!("{answer:?}"));
         }
         bench.finish(&memory, Some);

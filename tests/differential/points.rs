@@ -3,7 +3,7 @@
 use crate::compare::{Bench, Case};
 use crate::coverage::Call;
 use crate::grids::{self, Plain};
-use crate::model::{refuse, Grid, TO27, TO83};
+use crate::model::{refuse, sign, Grid, TO27, TO83};
 use crate::pieces;
 use crate::random::Random;
 
@@ -65,12 +65,12 @@ pub fn compare(bench: &mut Bench, random: &mut Random, plain: &Plain, count: usi
     let (mut ways, mut numbers, mut known) = (Vec::new(), Vec::new(), Vec::new());
     for _ in 0..count {
         let point = point(random, &plain.header);
-        let found = bench.one(Call::To83, &case, point, Some(2));
+        let found = bench.one(Call::To83, &case, point, Some(4));
         mark_point(bench, &grid, point);
         let figure = figure(random, &grid, &plain.header);
         let answer = bench.one(Call::To27, &case, figure, Some(2));
         bench.coverage.mark_if(figure.iter().any(|part| part.unsigned_abs() > 1 << 40), "figure: absurd");
-        mark_back(bench, &grid, answer.ok());
+        mark_back(bench, &grid, answer.ok().map(|answer| answer.coordinates));
         let mut requests = vec![(TO83, point, found), (TO27, figure, answer)];
         if random.once_in(4) {
             requests.push((random.pick(&NO_WAYS), point, refuse(1, 0)));
@@ -82,7 +82,7 @@ pub fn compare(bench: &mut Bench, random: &mut Random, plain: &Plain, count: usi
             known.push(outcome);
         }
     }
-    bench.batch_known(&case, Some(&ways), Some(&numbers), [Some(numbers.len()), Some(ways.len())], &known);
+    bench.batch_known(&case, Some(&ways), Some(&numbers), [Some(4 * ways.len()), Some(ways.len())], &known);
     around_answers(bench, random, &case, &numbers);
 }
 
@@ -93,11 +93,11 @@ fn around_answers(bench: &mut Bench, random: &mut Random, case: &Case, points: &
     let Ok([lat, lon]) = grid.to83([points[chosen], points[chosen + 1]]) else { return };
     let steps = [-1, 0, 1];
     let around: Vec<i64> = steps.iter().flat_map(|a| steps.map(|b| [lat + a, lon + b])).flatten().collect();
-    bench.batch(case, Some(&[TO27; 9]), Some(&around), [Some(20), Some(10)]);
+    bench.batch(case, Some(&[TO27; 9]), Some(&around), [Some(38), Some(10)]);
     bench.coverage.mark("figure: one off an answer");
 }
 
-/// Notes where a point lies and whether its shifts are ties.
+/// Notes where a point lies, whether its shifts are ties, and how they are rounded.
 pub fn mark_point(bench: &mut Bench, grid: &Grid, point: [i64; 2]) {
     let [lat, lon] = point.map(i128::from);
     let (north, east) = (grid.north(), grid.east());
@@ -121,8 +121,17 @@ pub fn mark_point(bench: &mut Bench, grid: &Grid, point: [i64; 2]) {
     marks.mark_if(on_side.0, "point: side shared by a south and a north cell");
     marks.mark_if(on_side.1, "point: side shared by a west and an east cell");
     marks.mark_if(on_side == (true, true), "point: inner node");
+    let at_node = (on_edge.0 || on_side.0) && (on_edge.1 || on_side.1);
+    marks.mark_if(!at_node && is_exact(grid.lat_fraction(lat, lon)), "point: exact latitude shift between nodes");
+    marks.mark_if(!at_node && is_exact(grid.lon_fraction(lat, lon)), "point: exact longitude shift between nodes");
     mark_tie(bench, LAT_TIES, grid.lat_fraction(lat, lon));
     mark_tie(bench, LON_TIES, grid.lon_fraction(lat, lon));
+    mark_sign(bench, LAT_SIGNS, grid.lat_fraction(lat, lon));
+    mark_sign(bench, LON_SIGNS, grid.lon_fraction(lat, lon));
+}
+
+fn is_exact((numerator, denominator): (i128, i128)) -> bool {
+    numerator % denominator == 0
 }
 
 /// The ties of one component, by the shift's sign, and by whether the even number lies toward zero or away from it.
@@ -144,7 +153,35 @@ fn mark_tie(bench: &mut Bench, names: Ties, (numerator, denominator): (i128, i12
         bench.coverage.mark(names[usize::from(numerator < 0)][usize::from(away)]);
         bench.coverage.mark_if(denominator == 1_000_000, "point: tie in a cell of 1,000 by 1,000");
         bench.coverage.mark_if(denominator != 1_000_000, "point: tie in another cell");
+        bench.coverage.mark_if(sign((numerator, denominator)) == -1, "point: tie with sign -1");
+        bench.coverage.mark_if(sign((numerator, denominator)) == 1, "point: tie with sign 1");
     }
+}
+
+/// The signs -1, 0 and 1 of one component, each of positive and of negative shifts.
+type Signs = [[&'static str; 2]; 3];
+
+const LAT_SIGNS: Signs = [
+    ["point: sign -1, positive latitude shift", "point: sign -1, negative latitude shift"],
+    ["point: sign 0, positive latitude shift", "point: sign 0, negative latitude shift"],
+    ["point: sign 1, positive latitude shift", "point: sign 1, negative latitude shift"],
+];
+
+const LON_SIGNS: Signs = [
+    ["point: sign -1, positive longitude shift", "point: sign -1, negative longitude shift"],
+    ["point: sign 0, positive longitude shift", "point: sign 0, negative longitude shift"],
+    ["point: sign 1, positive longitude shift", "point: sign 1, negative longitude shift"],
+];
+
+fn mark_sign(bench: &mut Bench, names: Signs, fraction: (i128, i128)) {
+    let (numerator, denominator) = fraction;
+    if numerator != 0 {
+        bench.coverage.mark(names[(sign(fraction) + 1) as usize][usize::from(numerator < 0)]);
+    }
+    // No shift is closer to a whole number and yet not exact.
+    let (largest, above) = (denominator == 900_000 * 900_000, numerator.rem_euclid(denominator));
+    bench.coverage.mark_if(largest && above == 1, "point: one part above a whole number, in the largest cell");
+    bench.coverage.mark_if(largest && above == denominator - 1, "point: one part below a whole number, in the largest cell");
 }
 
 fn mark_back(bench: &mut Bench, grid: &Grid, point: Option<[i64; 2]>) {
@@ -163,9 +200,9 @@ pub fn every_call(bench: &mut Bench, random: &mut Random, case: &Case, text: &st
     let mut room = |needed: usize| random.pick(&[Some(needed), Some(needed), Some(needed + 3), Some(needed - 1), Some(0), None]);
     bench.check(case);
     bench.write(case, text, room(text.len()));
-    let _ = bench.one(Call::To83, case, point, room(2));
+    let _ = bench.one(Call::To83, case, point, room(4));
     let _ = bench.one(Call::To27, case, point, room(2));
-    bench.batch(case, Some(&[TO83, TO27, 0]), Some(&[point, point, point].concat()), [room(6), room(3)]);
+    bench.batch(case, Some(&[TO83, TO27, 0]), Some(&[point, point, point].concat()), [room(12), room(3)]);
     bench.batch(case, None, Some(&point), [room(2), room(1)]);
     let choice = random.below(5);
     let list_room = |needed| [Some(needed), Some(needed + 2), Some(needed - 1), Some(0), None][choice];

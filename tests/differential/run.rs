@@ -2,7 +2,7 @@
 
 use crate::compare::Bench;
 use crate::random::Random;
-use crate::{broken, exhaustive, grids, lists, memory, paper, pieces, points, texts, ties};
+use crate::{broken, exhaustive, grids, lists, memory, paper, pieces, points, signs, texts, ties};
 use std::time::{Duration, Instant};
 
 /// The seed of the short run, and of a long one that is given no other.
@@ -37,6 +37,7 @@ fn fixed(bench: &mut Bench, random: &mut Random) {
     paper::list(bench);
     paper::too_steep(bench);
     ties::compare(bench);
+    signs::compare(bench);
     broken::header_edges(bench, random);
     broken::each_node(bench, random);
     broken::range_before_steepness(bench, random);

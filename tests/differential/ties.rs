@@ -6,11 +6,11 @@ use crate::grids::{Plain, SHIFT_LIMIT};
 use crate::points;
 
 /// Spacings of which one at least is even: halfway along that axis there is a point.
-const SPACINGS: [[i64; 2]; 7] =
+pub const SPACINGS: [[i64; 2]; 7] =
     [[1_000, 1_000], [1_000, 1_001], [1_001, 1_000], [1_024, 9_973], [450_000, 1_600], [900_000, 450_000], [900_000, 900_000]];
 
 /// Shifts of both parities and both signs, near zero and at the limits. The next shift is one greater.
-fn shifts() -> impl Iterator<Item = i64> {
+pub fn shifts() -> impl Iterator<Item = i64> {
     (-5..=4).chain([-SHIFT_LIMIT, 1 - SHIFT_LIMIT, SHIFT_LIMIT - 2, SHIFT_LIMIT - 1])
 }
 
@@ -35,8 +35,8 @@ fn halfway(bench: &mut Bench, plain: &Plain, [north, east]: [i64; 2]) {
     for [lat, lon] in [[0, east], [north, 0], [north, east]] {
         for point in [[lat, lon], [lat + 1, lon], [lat, lon + 1], [lat + 1, lon + 1]] {
             points::mark_point(bench, &grid, point);
-            if let Ok(figure) = bench.one(Call::To83, &case, point, Some(2)) {
-                let _ = bench.one(Call::To27, &case, figure, Some(2));
+            if let Ok(answer) = bench.one(Call::To83, &case, point, Some(4)) {
+                let _ = bench.one(Call::To27, &case, answer.coordinates, Some(2));
             }
         }
     }

@@ -1,44 +1,47 @@
--- Laws of a batch: the lengths of what is filled, and which slice is too short.
-use Prim.Native.Nat.{ℕ, zero, suc, _+_, _*_, _≤_, _<_}
+-- Laws of a batch: how many numbers an answer has, the lengths of what is filled, and which slice is too short.
+use Prim.Native.Nat.{ℕ, zero, suc, _*_, _≤_, _<_}
 use mathlib.Core.Path.{_≡_, refl, _∙_}
 use mathlib.Core.List.{List}
+use native.Mathlib.Omega.{arith}
 use borrow.Author.Tests.{lt-ltb, le-ltb}
 use lib.IntN.{ℤ}
-use lib.ListN.{length, set, length-set}
+use lib.ListN.{length, length-set}
+use lib.Seq.{length-sets}
 use Rattle.figures.specs.Outcome.{Outcome, answered, refused}
-use Rattle.convert.specs.Batch.{Pair, roomFor, stored, refusalNumber, answersTo, refusalsTo}
+use Rattle.convert.specs.Batch.{Answer, in83, in27, roomFor, numbersOf, refusalNumber, answersTo, refusalsTo}
 
-length-stored : (k : ℕ) (o : Outcome Pair) (l : List ℤ) → length (stored k o l) ≡ length l
-length-stored k (answered p) l = length-set (set l (2 * k) (p .lat)) (2 * k + 1) (p .lon) ∙ length-set l (2 * k) (p .lat)
-length-stored k (refused n place) l = refl
+pub few-numbers : (o : Outcome Answer) → length (numbersOf o) ≤ 4
+few-numbers (answered (in83 a)) = omega arith
+few-numbers (answered (in27 p)) = omega arith
+few-numbers (refused n k) = omega arith
 
-module _ (o : ℕ → Outcome Pair) where
+module _ (o : ℕ → Outcome Answer) where
   pub length-answersTo : (k : ℕ) (l : List ℤ) → length (answersTo o k l) ≡ length l
   unfolding answersTo
   length-answersTo zero l = refl
-  length-answersTo (suc k) l = length-stored k (o k) (answersTo o k l) ∙ length-answersTo k l
+  length-answersTo (suc k) l = length-sets (answersTo o k l) (4 * k) (numbersOf (o k)) ∙ length-answersTo k l
 
   pub length-refusalsTo : (k : ℕ) (l : List ℕ) → length (refusalsTo o k l) ≡ length l
   unfolding refusalsTo
   length-refusalsTo zero l = refl
   length-refusalsTo (suc k) l = length-set (refusalsTo o k l) k (refusalNumber (o k)) ∙ length-refusalsTo k l
 
--- room for n requests: which slice is too short, and none
+-- ---- room for n requests: which slice is too short, and none
 module _ (n : ℕ) (points answers : List ℤ) (refusals : List ℕ) where
   pub points-short : length points < 2 * n → roomFor n points answers refusals ≡ refused 8 (2 * n)
   unfolding roomFor
   points-short h = rw (lt-ltb (length points) (2 * n) h)
 
   module _ (p : 2 * n ≤ length points) where
-    pub answers-short : length answers < 2 * n → roomFor n points answers refusals ≡ refused 8 (2 * n)
+    pub answers-short : length answers < 4 * n → roomFor n points answers refusals ≡ refused 8 (4 * n)
     unfolding roomFor
-    answers-short h = rw (le-ltb (length points) (2 * n) p, lt-ltb (length answers) (2 * n) h)
+    answers-short h = rw (le-ltb (length points) (2 * n) p, lt-ltb (length answers) (4 * n) h)
 
-    module _ (a : 2 * n ≤ length answers) where
+    module _ (a : 4 * n ≤ length answers) where
       pub refusals-short : length refusals < n → roomFor n points answers refusals ≡ refused 8 n
       unfolding roomFor
-      refusals-short h = rw (le-ltb (length points) (2 * n) p, le-ltb (length answers) (2 * n) a, lt-ltb (length refusals) n h)
+      refusals-short h = rw (le-ltb (length points) (2 * n) p, le-ltb (length answers) (4 * n) a, lt-ltb (length refusals) n h)
 
       pub all-fit : n ≤ length refusals → roomFor n points answers refusals ≡ answered n
       unfolding roomFor
-      all-fit h = rw (le-ltb (length points) (2 * n) p, le-ltb (length answers) (2 * n) a, le-ltb (length refusals) n h)
+      all-fit h = rw (le-ltb (length points) (2 * n) p, le-ltb (length answers) (4 * n) a, le-ltb (length refusals) n h)

@@ -13,11 +13,11 @@ use Rattle.grid.specs.Grid.{Grid}
 use Rattle.grid.specs.Check.{Passes}
 use Rattle.grid.proofs.Passing.{Good, good}
 use Rattle.convert.specs.Points.{targetOf}
-use Rattle.convert.specs.Convert.{answer, to83, to27}
+use Rattle.convert.specs.Convert.{answer, coordinates83, to27}
 use Rattle.convert.specs.Rounds.{candidate, settle, sought}
 use Rattle.convert.specs.declared.offsets.Place.{Place}
 use Rattle.convert.proofs.Places.{Target, target-at, target-inside}
-use Rattle.convert.proofs.Cases.{to83-on}
+use Rattle.convert.proofs.Cases.{coordinates-on}
 use Rattle.convert.proofs.OnPassing.{answer-target}
 use Rattle.convert.proofs.Candidate.{candidate-on, candidate-only}
 use Rattle.convert.proofs.Demands.{answer-is, Returned, returned-once, returned}
@@ -26,13 +26,13 @@ module _ (g : Grid) (f : Point83) (e : Passes g) where
   ok : Good g
   ok = good g e
 
-  outside : Place.Outside ≡ targetOf (g .header) f → (p : Point27) → to83 g p ≡ answered f → ⊥
+  outside : Place.Outside ≡ targetOf (g .header) f → (p : Point27) → coordinates83 g p ≡ answered f → ⊥
   outside o p u =
       let a = answer-is g p u in
       target-inside (g .header) (answer g p) (answer-target ok p (a .1)) (o ∙ ap (targetOf (g .header)) (sym (a .2)))
 
   module _ {X Y : ℕ} (t : Target (g .header) f X Y) where
-    only : (p : Point27) → to83 g p ≡ answered f → candidate g X Y ≡ p
+    only : (p : Point27) → coordinates83 g p ≡ answered f → candidate g X Y ≡ p
     only p u = let a = answer-is g p u in candidate-only ok p (a .1) (subst (λ (v : Point83). Target (g .header) v X Y) (sym (a .2)) t)
 
     confirmed : Returned g f (settle f (answer g (candidate g X Y)) (candidate g X Y))
@@ -40,7 +40,7 @@ module _ (g : Grid) (f : Point83) (e : Passes g) where
       where
         go : (b : Bool) → same83 f (answer g (candidate g X Y)) ≡ b
             → Returned g f (cond b (answered (candidate g X Y)) (refused 7 0))
-        go true s = to83-on g _ e (candidate-on g (ok .header) X Y) ∙ ap answered (sym (equal83 s))
+        go true s = coordinates-on g _ e (candidate-on g (ok .header) X Y) ∙ ap answered (sym (equal83 s))
         go false s = inr (
           e,
           refl,

@@ -1,15 +1,17 @@
 // A batch of requests, converted with one check of the grid. A request is the number of a way and two numbers, latitude first.
 use super::Answer27;
-use super::Answer83;
-use super::forward;
+use super::Shifted;
+use super::cells::exact_at;
 use super::inverse;
+use super::offsets::Place;
+use super::offsets::position_of;
+use super::shift_point;
 use figures::Point27;
 use figures::Point83;
 use figures::Refusal;
 use grid::Checked;
 use grid::Header;
-use slices::number_at;
-use slices::put;
+use slices::put_all;
 use slices::put_byte;
 ghost use mathlib.Core.Path.{_≡_};
 ghost use Prim.Native.Nat.{_+_, _*_, _^_, _≤_, _<_};
@@ -17,8 +19,8 @@ ghost use lib.ListN.{length};
 ghost use Rattle.figures.specs.Outcome.{mapAnswer};
 ghost use Rattle.grid.specs.Grid.{gridOf};
 ghost use Rattle.grid.specs.Check.{Passes};
-ghost use Rattle.convert.specs.Convert.{outcome83, outcome27};
-ghost use Rattle.convert.specs.Batch.{pair27, pair83, pairOutcome, converted, requestOutcome, batchOutcome, roomFor, converting, stored, refusalNumber, answersTo, refusalsTo, answersAfter, refusalsAfter};
+ghost use Rattle.convert.specs.Convert.{to83, to27};
+ghost use Rattle.convert.specs.Batch.{in83, in27, convertedOutcome, converted, requestOutcome, batchOutcome, roomFor, converting, stored, refusalNumber, answersTo, refusalsTo, answersAfter, refusalsAfter};
 
 // The ways. 0 is none, so that ways that nobody has filled in are refused.
 pub const TO83: u8 = 1;
@@ -32,14 +34,16 @@ pub enum Filled {
     Refused(Refusal),
 }
 
-// What one request comes to: latitude and longitude in the other datum, or a refusal.
+// What one request comes to: an answer by its way, or a refusal.
 pub(crate) enum Converted {
-    At(i64, i64),
+    In83(Shifted),
+    In27(Point27),
     Refused(Refusal),
 }
 
-// Converts a request for each way, its two numbers one after the other in `points`: 2, 5, 3, 4, 14, then 8. A request that is refused
-// leaves its place in the answers as it was; a way that does not exist is refused 1.
+// Converts a request for each way, its two numbers one after the other in `points`: 2, 5, 3, 4, 14, then 8. Its answer has four places in
+// `answers`; the way back leaves the two of the signs as they were, and a request that is refused all four. A way that does not exist is
+// refused 1.
 pub fn convert_batch<'a>(
     h: Header,
     lat: &'a [i64],
@@ -77,8 +81,8 @@ fn convert_checked<'a>(
     if points.len() < 2 * n {
         return Filled::Refused(Refusal::Room(2 * n));
     }
-    if answers.len() < 2 * n {
-        return Filled::Refused(Refusal::Room(2 * n));
+    if answers.len() < 4 * n {
+        return Filled::Refused(Refusal::Room(4 * n));
     }
     if refusals.len() < n {
         return Filled::Refused(Refusal::Room(n));
@@ -103,10 +107,8 @@ fn fill<'a>(
 {
     let mut k: usize = 0;
     while k < ways.len() {
-        let way = ways[k];
-        let y = number_at(points, 2 * k);
-        let x = number_at(points, 2 * k + 1);
-        let number = store(convert_one(h, lat, lon, way, y, x), k, answers);
+        let converted = convert_one(h, lat, lon, ways[k], points[2 * k], points[2 * k + 1]);
+        let number = store(converted, k, answers);
         put_byte(refusals, k, number);
         k += 1;
     }
@@ -115,54 +117,54 @@ fn fill<'a>(
 // One request, over a grid that was checked.
 fn convert_one<'a>(h: Header, lat: &'a [i64], lon: &'a [i64], way: u8, y: i64, x: i64) -> Converted
     requires { ⌜ Passes (gridOf h (now lat) (now lon)) ⌝ }
-    ensures { λ r. ⌜ pairOutcome r ≡ converted (gridOf h (now (lat .entry)) (now (lon .entry))) way y x ⌝ }
+    ensures { λ r. ⌜ convertedOutcome r ≡ converted (gridOf h (now (lat .entry)) (now (lon .entry))) way y x ⌝ }
 {
     if way == TO83 {
-        return pair_of83(forward(h, lat, lon, Point27::new(y, x)));
+        return there(h, lat, lon, Point27::new(y, x));
     }
     if way == TO27 {
-        return pair_of27(inverse(h, lat, lon, Point83::new(y, x)));
+        return back(h, lat, lon, Point83::new(y, x));
     }
     Converted::Refused(Refusal::Form(0))
 }
 
-fn pair_of83(a: Answer83) -> Converted
-    ensures { λ r. ⌜ pairOutcome r ≡ mapAnswer pair83 (outcome83 a) ⌝ }
+// As `super::forward`, but straight to what is stored: the loop is the faster for it.
+fn there<'a>(h: Header, lat: &'a [i64], lon: &'a [i64], p: Point27) -> Converted
+    requires { ⌜ Passes (gridOf h (now lat) (now lon)) ⌝ }
+    ensures { λ r. ⌜ convertedOutcome r ≡ mapAnswer in83 (to83 (gridOf h (now (lat .entry)) (now (lon .entry))) p) ⌝ }
 {
-    match a {
-        Answer83::Refused(why) => Converted::Refused(why),
-        Answer83::Point(f) => {
-            let lat = f.lat;
-            let lon = f.lon;
-            Converted::At(lat.0, lon.0)
-        }
+    match position_of(h, p) {
+        Place::Outside => Converted::Refused(Refusal::OffGrid),
+        Place::At(x, y) => Converted::In83(shift_point(p, exact_at(h, lat, lon, x, y))),
     }
 }
 
-fn pair_of27(a: Answer27) -> Converted
-    ensures { λ r. ⌜ pairOutcome r ≡ mapAnswer pair27 (outcome27 a) ⌝ }
+fn back<'a>(h: Header, lat: &'a [i64], lon: &'a [i64], f: Point83) -> Converted
+    requires { ⌜ Passes (gridOf h (now lat) (now lon)) ⌝ }
+    ensures { λ r. ⌜ convertedOutcome r ≡ mapAnswer in27 (to27 (gridOf h (now (lat .entry)) (now (lon .entry))) f) ⌝ }
 {
-    match a {
+    match inverse(h, lat, lon, f) {
         Answer27::Refused(why) => Converted::Refused(why),
-        Answer27::Point(p) => {
-            let lat = p.lat;
-            let lon = p.lon;
-            Converted::At(lat.0, lon.0)
-        }
+        Answer27::Point(p) => Converted::In27(p),
     }
 }
 
-// Stores the answer of request `k` in its place, and answers the number of its refusal, or 0.
+// Stores the answer of request `k` in its places, and answers the number of its refusal, or 0.
 fn store(c: Converted, k: usize, answers: &mut [i64]) -> u8
-    requires { ⌜ 2 * k + 1 < 2 ^ 63 ⌝ }
-    ensures number { λ r. ⌜ r ≡ refusalNumber (pairOutcome c) ⌝ }
-    ensures answers { λ r. ⌜ now (answers .exit) ≡ stored k (pairOutcome c) (now (answers .entry)) ⌝ }
+    requires { ⌜ 4 * k < 2 ^ 64 ⌝ }
+    ensures number { λ r. ⌜ r ≡ refusalNumber (convertedOutcome c) ⌝ }
+    ensures answers { λ r. ⌜ now (answers .exit) ≡ stored k (convertedOutcome c) (now (answers .entry)) ⌝ }
 {
     match c {
         Converted::Refused(why) => why.number() as u8,
-        Converted::At(lat, lon) => {
-            put(answers, 2 * k, lat);
-            put(answers, 2 * k + 1, lon);
+        Converted::In83(a) => {
+            put_all(answers, 4 * k, &a.numbers());
+            0
+        }
+        Converted::In27(p) => {
+            let lat = p.lat;
+            let lon = p.lon;
+            put_all(answers, 4 * k, &[lat.0, lon.0]);
             0
         }
     }

@@ -1,12 +1,12 @@
-// The cell of a point of the grid, the nodes that are its corners, and the shift at the point. The grid has been checked, and the
+// The cell of a point of the grid, the nodes that are its corners, and the exact shift at the point. The grid has been checked, and the
 // point is on it: `x` east and `y` north of the southwest corner, in thousandths of an arc second.
-use super::interpolation::four_corner;
+use super::interpolation::interpolate;
 use grid::Header;
 use grid::Shape;
 use shift::Cell;
 use shift::Corners;
 use shift::Distances;
-use shift::Shift;
+use shift::ExactShift;
 ghost use mathlib.Core.Path.{_≡_};
 ghost use Prim.Native.Nat.{_+_, _*_, _-_, _≤_, _<_};
 ghost use lib.ListN.{length};
@@ -15,23 +15,30 @@ ghost use Rattle.grid.specs.Grid.{nodeLists, gridOf};
 ghost use Rattle.grid.specs.Rules.{shape};
 ghost use Rattle.grid.specs.Check.{Passes};
 ghost use Rattle.grid.specs.Needs.{Extent};
-ghost use Rattle.shift.specs.Shift.{cornersAt, cellAt, shiftOf};
+ghost use Rattle.shift.specs.Shift.{cornersAt, cellAt, exactOf};
+ghost use Rattle.shift.specs.Needs.{ExactIn};
 ghost use Rattle.convert.specs.Points.{width, height};
 
-pub(crate) fn shift_at<'a>(h: Header, lat: &'a [i64], lon: &'a [i64], x: usize, y: usize) -> Shift
+pub(crate) fn exact_at<'a>(
+    h: Header,
+    lat: &'a [i64],
+    lon: &'a [i64],
+    x: usize,
+    y: usize,
+) -> ExactShift
     requires { ⌜ Passes (gridOf h (now lat) (now lon)) ⌝ }
     requires { ⌜ (x ≤ width h) × (y ≤ height h) ⌝ }
-    ensures { λ r. ⌜ r ≡ shiftOf (shape h) (nodeLists (now (lat .entry)) (now (lon .entry))) x y ⌝ }
+    ensures { λ r. ⌜ (r ≡ exactOf (shape h) (nodeLists (now (lat .entry)) (now (lon .entry))) x y) × (ExactIn r) ⌝ }
 {
     let shape = h.shape();
     let cell = cell_at(shape, x, y);
     let sw = cell.row * shape.cols + cell.col;
     let nw = sw + shape.cols;
-    let at = cell.distances;
-    Shift {
-        lat: four_corner(corners_at(lat, sw, nw), at),
-        lon: four_corner(corners_at(lon, sw, nw), at),
-    }
+    interpolate(
+        corners_at(lat, sw, nw),
+        corners_at(lon, sw, nw),
+        cell.distances,
+    )
 }
 
 fn cell_at(shape: Shape, x: usize, y: usize) -> Cell

@@ -1,23 +1,25 @@
-// One component's shift at a point of a cell, as Bulletin 1875-B interpolates it: along the southern row, along the northern row, then
-// between the two. The bulletin divides at each step, and its equation 2 joins these divisions into one. So it is done here: the sums
-// stay whole, and one division comes last, rounded once. Corners and distances go in, and the shift comes out; the grid has been checked.
+// The shift at a point of a cell, as Bulletin 1875-B interpolates it: along the southern row, along the northern row, then between the
+// two. The bulletin divides at each step, and its equation 2 joins these divisions into one. So it is done here: the sums stay whole, and
+// what comes out is that one fraction, exact. Corners and distances go in; the grid has been checked.
 use shift::Corners;
 use shift::Distances;
-use sizes::magnitude;
+use shift::ExactShift;
 ghost use mathlib.Core.Path.{_≡_};
-ghost use Prim.Native.Nat.{_+_, _*_, _≤_, _<_};
 ghost use Rattle.laws.specs.Parts.{Within};
 ghost use Rattle.grid.specs.Nodes.{maxShift};
-ghost use Rattle.shift.specs.Round.{roundSize, nearest};
-ghost use Rattle.shift.specs.Shift.{rowSum, numerator, fourCorner};
-ghost use Rattle.shift.specs.Needs.{Weighted, CornersIn};
+ghost use Rattle.shift.specs.Shift.{rowSum, numerator, exactIn};
+ghost use Rattle.shift.specs.Needs.{Weighted, CornersIn, ExactIn};
 
-// Equation 2: Sp = ((S1·B + S2·A)·D + (S3·B + S4·A)·C) / ((A + B)(C + D)), rounded.
-pub(crate) fn four_corner(s: Corners, at: Distances) -> i64
-    requires { ⌜ (CornersIn s) × (Weighted at) ⌝ }
-    ensures { λ r. ⌜ r ≡ fourCorner s at ⌝ }
+// Equation 2 of both components: Sp = ((S1·B + S2·A)·D + (S3·B + S4·A)·C) / ((A + B)(C + D)).
+pub(crate) fn interpolate(lat: Corners, lon: Corners, at: Distances) -> ExactShift
+    requires { ⌜ (CornersIn lat) × (CornersIn lon) × (Weighted at) ⌝ }
+    ensures { λ r. ⌜ (r ≡ exactIn lat lon at) × (ExactIn r) ⌝ }
 {
-    rounded(numerator(s, at), (at.a + at.b) * (at.c + at.d))
+    ExactShift {
+        lat: numerator(lat, at),
+        lon: numerator(lon, at),
+        denominator: (at.a + at.b) * (at.c + at.d),
+    }
 }
 
 // Along one row, from its west corner S1 to its east corner S2: equation 1, Sp = (S1·B + S2·A) / (A + B), before its division.
@@ -40,29 +42,4 @@ fn numerator(s: Corners, at: Distances) -> i64
     let southern = row_sum(s.s1, s.s2, at);
     let northern = row_sum(s.s3, s.s4, at);
     southern * d + northern * c
-}
-
-// The nearest whole number to `n / d`, a tie to the even one: the size is rounded, and the sign stays.
-fn rounded(n: i64, d: usize) -> i64
-    requires { ⌜ (Within 4860000000000000000 n) × (0 < d) × (d ≤ 810000000000) ⌝ }
-    ensures { λ r. ⌜ r ≡ nearest d n ⌝ }
-{
-    let size = rounded_size(magnitude(n) as usize, d) as i64;
-    if n < 0 {
-        return -size;
-    }
-    size
-}
-
-// By quotient and remainder, since 2n may not fit. An odd quotient adds one to twice the remainder, which decides a tie and nothing else.
-fn rounded_size(n: usize, d: usize) -> usize
-    requires { ⌜ (n ≤ 4860000000000000000) × (0 < d) × (d ≤ 810000000000) ⌝ }
-    ensures { λ r. ⌜ r ≡ roundSize d n ⌝ }
-{
-    let q = n / d;
-    let r = n % d;
-    if d < 2 * r + q % 2 {
-        return q + 1;
-    }
-    q
 }

@@ -3,6 +3,7 @@ pub mod batch;
 mod cells;
 mod interpolation;
 mod offsets;
+mod rounding;
 mod search;
 
 use figures::Point27;
@@ -11,18 +12,28 @@ use figures::Refusal;
 use grid::Checked;
 use grid::Header;
 use offsets::Place;
+use shift::ExactShift;
 use shift::Shift;
+use shift::Signs;
 ghost use mathlib.Core.Path.{_≡_};
 ghost use Rattle.laws.specs.Parts.{Within};
 ghost use Rattle.grid.specs.Grid.{gridOf};
 ghost use Rattle.grid.specs.Check.{Passes};
-ghost use Rattle.convert.specs.Points.{answerOf};
-ghost use Rattle.convert.specs.Convert.{outcome83, outcome27, to83, to27};
+ghost use Rattle.shift.specs.Shift.{roundedShift};
+ghost use Rattle.shift.specs.Needs.{ExactIn};
+ghost use Rattle.convert.specs.Points.{answerOf, shiftedBy};
+ghost use Rattle.convert.specs.Convert.{numbers83, outcome83, outcome27, to83, to27};
 ghost use Rattle.convert.specs.Rounds.{settle};
 ghost use Rattle.grid.specs.Nodes.{maxShift};
 
+// A point's answer: where it is in NAD 83, and for each coordinate the sign of the rounded shift minus the exact one.
+pub struct Shifted {
+    pub point: Point83,
+    pub signs: Signs,
+}
+
 pub enum Answer83 {
-    Point(Point83),
+    Point(Shifted),
     Refused(Refusal),
 }
 
@@ -51,6 +62,22 @@ pub fn to27<'a>(h: Header, lat: &'a [i64], lon: &'a [i64], f: Point83) -> Answer
     }
 }
 
+impl Shifted {
+    // Latitude, longitude and the number of the sign of each: an answer as it is stored and written.
+    pub fn numbers(self) -> [i64; 4]
+        ensures numbers { λ r. ⌜ r ≡ numbers83 self ⌝ }
+        ensures sizes { λ r. ⌜ (Within 9223372036854775808 (self .point .lat .0)) × (Within 9223372036854775808 (self .point .lon .0)) ⌝ }
+    {
+        let point = self.point;
+        let signs = self.signs;
+        let lat = point.lat;
+        let lon = point.lon;
+        let lat_sign = signs.lat;
+        let lon_sign = signs.lon;
+        [lat.0, lon.0, lat_sign.number(), lon_sign.number()]
+    }
+}
+
 // `to83` over a grid that was checked.
 fn forward<'a>(h: Header, lat: &'a [i64], lon: &'a [i64], p: Point27) -> Answer83
     requires { ⌜ Passes (gridOf h (now lat) (now lon)) ⌝ }
@@ -58,7 +85,20 @@ fn forward<'a>(h: Header, lat: &'a [i64], lon: &'a [i64], p: Point27) -> Answer8
 {
     match offsets::position_of(h, p) {
         Place::Outside => Answer83::Refused(Refusal::OffGrid),
-        Place::At(x, y) => Answer83::Point(answer_of(p, cells::shift_at(h, lat, lon, x, y))),
+        Place::At(x, y) => Answer83::Point(shift_point(p, cells::exact_at(h, lat, lon, x, y))),
+    }
+}
+
+// A point's answer, from the exact shift there.
+fn shift_point(p: Point27, e: ExactShift) -> Shifted
+    requires { ⌜ (Within 1000000000 (p .lat .0)) × (Within 1000000000 (p .lon .0)) × (ExactIn e) ⌝ }
+    requires { ⌜ (Within maxShift (roundedShift e .lat)) × (Within maxShift (roundedShift e .lon)) ⌝ }
+    ensures { λ r. ⌜ r ≡ shiftedBy p e ⌝ }
+{
+    let shift = rounding::rounded_shift(e);
+    Shifted {
+        point: answer_of(p, shift),
+        signs: rounding::signs(e, shift),
     }
 }
 

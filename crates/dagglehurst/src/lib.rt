@@ -27,12 +27,12 @@ ghost use Rattle.grid.specs.Check.{verdict};
 ghost use Rattle.grid_text.specs.Text.{gridText};
 ghost use Rattle.grid_text.specs.Writing.{writing};
 ghost use Rattle.grid_reader.specs.Reading.{nodesAfter};
-ghost use Rattle.convert.specs.Convert.{to83, to27};
-ghost use Rattle.convert.specs.Batch.{pair83, pair27, requestOutcome, converting, answersAfter, refusalsAfter};
+ghost use Rattle.convert.specs.Convert.{to83, numbers83, numbers27, to27};
+ghost use Rattle.convert.specs.Batch.{requestOutcome, converting, answersAfter, refusalsAfter};
 ghost use Rattle.listing.specs.Listing.{listing, listText};
 ghost use Rattle.dagglehurst.specs.Reply.{reply};
 ghost use Rattle.dagglehurst.specs.Header.{headerIn, gridIn, readingAll, nodeCountIn, headerAfter};
-ghost use Rattle.dagglehurst.specs.Points.{fitted, one, pairAfter};
+ghost use Rattle.dagglehurst.specs.Points.{fitted, one, answerAfter};
 
 // Reads a grid's text.
 #[no_mangle]
@@ -94,16 +94,12 @@ pub extern "C" fn dagglehurst_to83<'a>(
     east: i64,
     answer: &mut [i64],
 ) -> u64
-    ensures answer { λ r. ⌜ r ≡ reply (mapAnswer one (fitted (mapAnswer pair83 (to83 (gridIn (now (header .entry)) (now (lat .entry)) (now (lon .entry))) (point27 north east))) (now (answer .entry)))) ⌝ }
-    ensures room { λ r. ⌜ now (answer .exit) ≡ pairAfter (fitted (mapAnswer pair83 (to83 (gridIn (now (header .entry)) (now (lat .entry)) (now (lon .entry))) (point27 north east))) (now (answer .entry))) (now (answer .entry)) ⌝ }
+    ensures answer { λ r. ⌜ r ≡ reply (mapAnswer one (fitted (mapAnswer numbers83 (to83 (gridIn (now (header .entry)) (now (lat .entry)) (now (lon .entry))) (point27 north east))) (now (answer .entry)))) ⌝ }
+    ensures room { λ r. ⌜ now (answer .exit) ≡ answerAfter (fitted (mapAnswer numbers83 (to83 (gridIn (now (header .entry)) (now (lat .entry)) (now (lon .entry))) (point27 north east))) (now (answer .entry))) (now (answer .entry)) ⌝ }
 {
     match to83(header_in(header), lat, lon, Point27::new(north, east)) {
         Answer83::Refused(why) => reply::refused(why),
-        Answer83::Point(f) => {
-            let y = f.lat;
-            let x = f.lon;
-            put_answer(y.0, x.0, answer)
-        }
+        Answer83::Point(a) => put_answer(&a.numbers(), answer),
     }
 }
 
@@ -117,15 +113,15 @@ pub extern "C" fn dagglehurst_to27<'a>(
     east: i64,
     answer: &mut [i64],
 ) -> u64
-    ensures answer { λ r. ⌜ r ≡ reply (mapAnswer one (fitted (mapAnswer pair27 (to27 (gridIn (now (header .entry)) (now (lat .entry)) (now (lon .entry))) (point83 north east))) (now (answer .entry)))) ⌝ }
-    ensures room { λ r. ⌜ now (answer .exit) ≡ pairAfter (fitted (mapAnswer pair27 (to27 (gridIn (now (header .entry)) (now (lat .entry)) (now (lon .entry))) (point83 north east))) (now (answer .entry))) (now (answer .entry)) ⌝ }
+    ensures answer { λ r. ⌜ r ≡ reply (mapAnswer one (fitted (mapAnswer numbers27 (to27 (gridIn (now (header .entry)) (now (lat .entry)) (now (lon .entry))) (point83 north east))) (now (answer .entry)))) ⌝ }
+    ensures room { λ r. ⌜ now (answer .exit) ≡ answerAfter (fitted (mapAnswer numbers27 (to27 (gridIn (now (header .entry)) (now (lat .entry)) (now (lon .entry))) (point83 north east))) (now (answer .entry))) (now (answer .entry)) ⌝ }
 {
     match to27(header_in(header), lat, lon, Point83::new(north, east)) {
         Answer27::Refused(why) => reply::refused(why),
         Answer27::Point(p) => {
             let y = p.lat;
             let x = p.lon;
-            put_answer(y.0, x.0, answer)
+            put_answer(&[y.0, x.0], answer)
         }
     }
 }

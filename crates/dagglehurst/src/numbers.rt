@@ -1,8 +1,9 @@
-// Numbers in lent slices: a header, as south, west, dlat, dlon, rows and cols, and an answer, latitude first.
+// Numbers in lent slices: a header, as south, west, dlat, dlon, rows and cols, and an answer, its latitude first.
 use super::reply;
 use grid::Header;
 use slices::number_at;
 use slices::put;
+use slices::put_all;
 ghost use mathlib.Core.Path.{_≡_};
 ghost use Prim.Native.Nat.{_≤_};
 ghost use lib.ListN.{length};
@@ -10,7 +11,7 @@ ghost use Rattle.laws.specs.Over.{over};
 ghost use Rattle.figures.specs.Outcome.{answered, mapAnswer};
 ghost use Rattle.dagglehurst.specs.Reply.{reply};
 ghost use Rattle.dagglehurst.specs.Header.{headerIn, numbers};
-ghost use Rattle.dagglehurst.specs.Points.{pair, fitted, one, pairAfter};
+ghost use Rattle.dagglehurst.specs.Points.{fitted, one, answerAfter};
 
 // The numbers of a header.
 pub(crate) const HEADER: usize = 6;
@@ -43,15 +44,15 @@ pub(crate) fn put_header(h: Header, s: &mut [i64])
     put(s, 5, h.cols);
 }
 
-// Stores an answer at the front of the room.
-pub(crate) fn put_answer(lat: i64, lon: i64, room: &mut [i64]) -> u64
-    ensures answer { λ r. ⌜ r ≡ reply (mapAnswer one (fitted (answered (pair lat lon)) (now (room .entry)))) ⌝ }
-    ensures room { λ r. ⌜ now (room .exit) ≡ pairAfter (fitted (answered (pair lat lon)) (now (room .entry))) (now (room .entry)) ⌝ }
+// Stores an answer's numbers at the front of the room.
+pub(crate) fn put_answer(numbers: &[i64], room: &mut [i64]) -> u64
+    ensures answer { λ r. ⌜ r ≡ reply (mapAnswer one (fitted (answered (now (numbers .entry))) (now (room .entry)))) ⌝ }
+    ensures room { λ r. ⌜ now (room .exit) ≡ answerAfter (fitted (answered (now (numbers .entry))) (now (room .entry))) (now (room .entry)) ⌝ }
 {
-    if room.len() < 2 {
-        return reply::too_short(2);
+    let n = numbers.len();
+    if room.len() < n {
+        return reply::too_short(n);
     }
-    put(room, 0, lat);
-    put(room, 1, lon);
+    put_all(room, 0, numbers);
     reply::answered(1)
 }

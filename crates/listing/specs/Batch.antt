@@ -10,9 +10,12 @@ use lib.IntN.{ℤ, pos}
 use Rattle.bytes.specs.Bytes.{indexOf}
 use Rattle.figures.specs.Outcome.{Outcome, answered, refused}
 use Rattle.figures.specs.Points.{point27, point83}
+use Rattle.figures.specs.declared.Point27.{Point27}
 use Rattle.writing.specs.Writing.{Put}
 use Rattle.lines.specs.Text.{newline}
+use Rattle.shift.specs.Sign.{signOf}
 use Rattle.convert.specs.Batch.{wayTo83, wayTo27}
+use Rattle.convert.specs.declared.Shifted.{Shifted}
 use Rattle.requests.specs.Requests.{otherForm}
 use Rattle.requests.specs.Replies.{maxText}
 use Rattle.requests.specs.declared.Request.{Request}
@@ -57,14 +60,24 @@ requestAt ways points k = requestBy (getD ways k 0) (getD points (2 * k) (pos 0)
 
 -- ---- a reply
 
+-- the answer of request k from its places: four in NAD 83, and two in NAD 27
+abbrev pub shiftedAt : (answers : List ℤ) (k : ℕ) → Shifted
+shiftedAt answers k =
+    record {
+      point = point83 (getD answers (4 * k) (pos 0)) (getD answers (4 * k + 1) (pos 0));
+      signs = record { lat = signOf (getD answers (4 * k + 2) (pos 0)); lon = signOf (getD answers (4 * k + 3) (pos 0)) };
+    }
+
+abbrev pub pointAt : (answers : List ℤ) (k : ℕ) → Point27
+pointAt answers k = point27 (getD answers (4 * k) (pos 0)) (getD answers (4 * k + 1) (pos 0))
+
 -- by the way of a request, its answer, and the number of its refusal or 0
-unfoldable pub replyBy : (way : ℕ) (y x : ℤ) (number : ℕ) → Reply
-replyBy way y x number =
-    cond (eqb number 0) (cond (eqb way wayTo83) (Reply.In83 (point83 y x)) (Reply.In27 (point27 y x))) (Reply.No (pos number))
+unfoldable pub replyBy : (way : ℕ) (answers : List ℤ) (k number : ℕ) → Reply
+replyBy way answers k number =
+    cond (eqb number 0) (cond (eqb way wayTo83) (Reply.In83 (shiftedAt answers k)) (Reply.In27 (pointAt answers k))) (Reply.No (pos number))
 
 abbrev pub replyAt : (ways : List ℕ) (answers : List ℤ) (refusals : List ℕ) (k : ℕ) → Reply
-replyAt ways answers refusals k =
-    replyBy (getD ways k 0) (getD answers (2 * k) (pos 0)) (getD answers (2 * k + 1) (pos 0)) (getD refusals k 0)
+replyAt ways answers refusals k = replyBy (getD ways k 0) answers k (getD refusals k 0)
 
 -- ---- the first n of them
 

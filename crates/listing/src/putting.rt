@@ -1,6 +1,7 @@
 // The writers of the parts of a list. In a room of no bytes they only count.
+use super::reading::ANSWERS;
 use super::reading::BATCH;
-use super::reading::NUMBERS;
+use super::reading::POINTS;
 use super::reading::read_batch;
 use super::replying::Replied;
 use super::replying::put_answers;
@@ -97,7 +98,7 @@ fn put_batch<'a>(
     ensures { λ r. ⌜ FedFront (gridOf h (now (lat .entry)) (now (lon .entry))) list (now (text .entry)) (now (room .entry)) (now (room .exit)) r ⌝ }
 {
     let mut ways = [0u8; BATCH];
-    let mut points = [0i64; NUMBERS];
+    let mut points = [0i64; POINTS];
     let batch = read_batch(list, text, &mut ways, &mut points);
     let n = batch.lines;
     if n == 0 {
@@ -131,7 +132,7 @@ fn answer_batch<'a>(
     requires { ⌜ Passes (gridOf h (now lat) (now lon)) × (n ≤ maxBatch) × (n ≤ length (now ways)) × (2 * n ≤ length (now points)) ⌝ }
     ensures { λ r. ⌜ RepliesPut totals (map (replyTo (gridOf h (now (lat .entry)) (now (lon .entry)))) (upTo (requestAt (now (ways .entry)) (now (points .entry))) n)) n (now (room .entry)) (now (room .exit)) r ⌝ }
 {
-    let mut answers = [0i64; NUMBERS];
+    let mut answers = [0i64; ANSWERS];
     let mut refusals = [0u8; BATCH];
     convert_batch(h, lat, lon, &ways[..n], points, &mut answers, &mut refusals);
     put_answers(totals, n, ways, &answers, &refusals, room)

@@ -16,7 +16,9 @@ ghost use Rattle.listing.specs.Batch.{maxBatch, wayOf, pairPut, pointPut
 // The most lines of a batch, and their numbers.
 pub(crate) const BATCH: usize = 2_048;
 
-pub(crate) const NUMBERS: usize = 2 * BATCH;
+pub(crate) const POINTS: usize = 2 * BATCH;
+
+pub(crate) const ANSWERS: usize = 4 * BATCH;
 
 // How many lines were read, and the bytes that they take.
 pub(crate) struct Batch {

@@ -16,9 +16,12 @@ pub(crate) fn call<'a>(case: Case, h: Header, lat: &'a [i64], lon: &'a [i64]) ->
     let answer = case.answer;
     match word {
         b'e' => check(h, lat, lon),
-        b'8' => came83(to83(h, lat, lon, given.point27()), answer.point83()),
-        b'2' => came27(to27(h, lat, lon, given.point83()), answer.point27()),
-        b't' => both(h, lat, lon, given.point27(), answer.point83()),
+        b'8' => came83(to83(h, lat, lon, given.point27()), answer),
+        b'2' => came27(
+            to27(h, lat, lon, given.point83()),
+            Point27::new(answer[0], answer[1]),
+        ),
+        b't' => both(h, lat, lon, given.point27(), answer),
         _ => Outcome::answered(false),
     }
 }
@@ -30,10 +33,10 @@ fn check<'a>(h: Header, lat: &'a [i64], lon: &'a [i64]) -> Outcome {
     }
 }
 
-// An answer that should be the figures `f`.
-fn came83(answer: Answer83, f: Point83) -> Outcome {
+// An answer that should be these four numbers.
+fn came83(answer: Answer83, numbers: [i64; 4]) -> Outcome {
     match answer {
-        Answer83::Point(g) => Outcome::answered(g.same(f)),
+        Answer83::Point(a) => Outcome::answered(same(a.numbers(), numbers)),
         Answer83::Refused(why) => Outcome::refused(why, true),
     }
 }
@@ -46,11 +49,24 @@ fn came27(answer: Answer27, p: Point27) -> Outcome {
     }
 }
 
-// There, where the answer should be the figures `f`, and back from them to `p`.
-fn both<'a>(h: Header, lat: &'a [i64], lon: &'a [i64], p: Point27, f: Point83) -> Outcome {
-    let there = came83(to83(h, lat, lon, p), f);
+// There, where the answer should be these numbers, and back from its coordinates to `p`.
+fn both<'a>(h: Header, lat: &'a [i64], lon: &'a [i64], p: Point27, answer: [i64; 4]) -> Outcome {
+    let there = came83(to83(h, lat, lon, p), answer);
     if there.is(0, 0) {
-        return came27(to27(h, lat, lon, f), p);
+        return came27(to27(h, lat, lon, Point83::new(answer[0], answer[1])), p);
     }
     there
+}
+
+fn same(a: [i64; 4], b: [i64; 4]) -> bool {
+    if a[0] != b[0] {
+        return false;
+    }
+    if a[1] != b[1] {
+        return false;
+    }
+    if a[2] != b[2] {
+        return false;
+    }
+    a[3] == b[3]
 }

@@ -7,8 +7,8 @@
 //     lat N,N,..            the latitude shifts of the grid's nodes
 //     lon N,N,..            the longitude shifts; `[N,*TIMES]` is a number that comes so many times
 //     check ANSWER          the grid is checked, and passes (`ok`) or is refused (`no NUMBER,PLACE`)
-//     to83 LAT,LON ANSWER   the point is converted, and answered (`ok LAT,LON`) or refused (`no NUMBER,PLACE`)
-//     to27 LAT,LON ANSWER   the same for the figures, and a point for an answer
+//     to83 LAT,LON ANSWER   the point is converted, and answered (`ok LAT,LON,SIGN,SIGN`) or refused (`no NUMBER,PLACE`)
+//     to27 LAT,LON ANSWER   the same for the figures, and a point for an answer (`ok LAT,LON`)
 //     both LAT,LON ANSWER   as `to83`, and the answer taken back is the point
 //
 // Empty lines and lines that start with `#` are passed over.

@@ -51,7 +51,8 @@ pub(crate) fn read(text: &[u8], list: &mut [i64]) -> usize {
     store(piece(&space, 0, n), list)
 }
 
-fn store(text: &[u8], list: &mut [i64]) -> usize
+// Numbers that are written out, one by one.
+pub(crate) fn store(text: &[u8], list: &mut [i64]) -> usize
     ensures { λ r. ⌜ r ≤ length (now (list .entry)) ⌝ }
 {
     let mut n: usize = 0;

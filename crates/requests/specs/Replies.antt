@@ -8,17 +8,17 @@ use Rattle.figures.specs.Refusal.{numberOf, placeOf}
 use Rattle.figures.specs.Outcome.{Outcome, answered, refused}
 use Rattle.figures.specs.declared.Refusal.{Refusal}
 use Rattle.figures.specs.declared.Point27.{Point27}
-use Rattle.figures.specs.declared.Point83.{Point83}
 use Rattle.lines.specs.Text.{line}
 use Rattle.grid.specs.Grid.{Grid}
-use Rattle.convert.specs.Convert.{to83, to27}
+use Rattle.convert.specs.Convert.{to83, numbers83, numbers27, to27}
+use Rattle.convert.specs.declared.Shifted.{Shifted}
 use Rattle.requests.specs.declared.Request.{Request}
 use Rattle.requests.specs.declared.Reply.{Reply}
 
 -- ---- replies
 
-abbrev pub said83 : Outcome Point83 → Reply
-said83 (answered f) = Reply.In83 f
+abbrev pub said83 : Outcome Shifted → Reply
+said83 (answered a) = Reply.In83 a
 said83 (refused n k) = Reply.No (pos n)
 
 abbrev pub said27 : Outcome Point27 → Reply
@@ -44,20 +44,20 @@ abbrev pub isAnswer : Reply → Bool
 isAnswer (Reply.No n) = false
 isAnswer (Reply.NoSheet n k) = false
 isAnswer (Reply.Sheet n) = true
-isAnswer (Reply.In83 f) = true
+isAnswer (Reply.In83 a) = true
 isAnswer (Reply.In27 p) = true
 isAnswer (Reply.Done a b) = true
 
--- ---- their text
+-- ---- their text; document 02, request 7: "`ok83` lines gain these as a third and fourth number"
 
 unfoldable pub replyText : Reply → List ℕ
 replyText (Reply.Sheet n) = line (bytes "sheet=") (n ∷ [])
-replyText (Reply.In83 f) = line (bytes "ok83=") (f .lat .0 ∷ f .lon .0 ∷ [])
-replyText (Reply.In27 p) = line (bytes "ok27=") (p .lat .0 ∷ p .lon .0 ∷ [])
+replyText (Reply.In83 a) = line (bytes "ok83=") (numbers83 a)
+replyText (Reply.In27 p) = line (bytes "ok27=") (numbers27 p)
 replyText (Reply.No n) = line (bytes "no=") (n ∷ [])
 replyText (Reply.NoSheet n k) = line (bytes "no=") (n ∷ k ∷ [])
 replyText (Reply.Done a b) = line (bytes "done=") (a ∷ b ∷ [])
 
--- no line of the list is longer: a key of 5 bytes, two numbers of 20, a comma and the newline
+-- no line of the list is longer: a key of 5 bytes, two numbers of 20 and two signs of 2, three commas and the newline
 abbrev pub maxText : ℕ
-maxText = 47
+maxText = 53

@@ -2,6 +2,7 @@
 mod replies;
 mod words;
 
+use convert::Shifted;
 use figures::Point27;
 use figures::Point83;
 use figures::Refusal;
@@ -26,7 +27,7 @@ pub enum Asked {
 pub enum Reply {
     // The number of nodes of the grid.
     Sheet(i64),
-    In83(Point83),
+    In83(Shifted),
     In27(Point27),
     // The number of a refusal.
     No(i64),

@@ -16,11 +16,11 @@ pub fn there_and_back<'a>(h: Header, lat: &'a [i64], lon: &'a [i64], p: Point27)
 {
     match convert::to83(h, lat, lon, p) {
         Answer83::Refused(why) => Answer27::Refused(why),
-        Answer83::Point(f) => convert::to27(h, lat, lon, f),
+        Answer83::Point(a) => convert::to27(h, lat, lon, a.point),
     }
 }
 
-// A figure taken back and its point converted: the figure itself, or the refusal of the way back.
+// A figure taken back and its point converted: the figure itself with the signs of that point, or the refusal of the way back.
 pub fn back_and_there<'a>(h: Header, lat: &'a [i64], lon: &'a [i64], f: Point83) -> Answer83
     ensures { λ r. ⌜ outcome83 r ≡ goesAgain (gridOf h (now (lat .entry)) (now (lon .entry))) f ⌝ }
 {
@@ -30,15 +30,15 @@ pub fn back_and_there<'a>(h: Header, lat: &'a [i64], lon: &'a [i64], f: Point83)
     }
 }
 
-// Whether two points have one answer: exactly if they are one point and it has an answer.
+// Whether two points have the same coordinates for an answer: exactly if they are one point and it has an answer.
 pub fn share_answer<'a>(h: Header, lat: &'a [i64], lon: &'a [i64], p: Point27, q: Point27) -> bool
     ensures { λ r. ⌜ r ≡ oneAnswer (gridOf h (now (lat .entry)) (now (lon .entry))) p q ⌝ }
 {
     match convert::to83(h, lat, lon, p) {
         Answer83::Refused(_) => false,
-        Answer83::Point(f) => match convert::to83(h, lat, lon, q) {
+        Answer83::Point(a) => match convert::to83(h, lat, lon, q) {
             Answer83::Refused(_) => false,
-            Answer83::Point(g) => f.same(g),
+            Answer83::Point(b) => a.point.same(b.point),
         },
     }
 }

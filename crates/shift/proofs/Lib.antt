@@ -1,4 +1,5 @@
 pub mod Rounding
+pub mod SignLaws
 pub mod Sums
 pub mod Bulletin
 pub mod Cells

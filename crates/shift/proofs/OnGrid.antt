@@ -12,18 +12,22 @@ use Rattle.bilinear.specs.Axis.{Near, near16, on-axis, Among}
 use Rattle.bilinear.specs.Surface.{surface, SlopeBound, surface-is, Nearest}
 use Rattle.bilinear.specs.Answers.{lipschitz, shift-between, shift-node}
 use Rattle.bilinear.specs.Search.{Regular}
+use Rattle.grid.specs.Grid.{Nodes}
 use Rattle.grid.specs.Nodes.{maxShift, node}
 use Rattle.grid.specs.Needs.{Extent}
 use Rattle.grid.specs.declared.Shape.{Shape}
 use Rattle.grid.proofs.RuleLaws.{Between}
 use Rattle.grid.proofs.NodeLaws.{Sound}
 use Rattle.shift.specs.Round.{NearestEven, nearest}
-use Rattle.shift.specs.Shift.{numerator, fourCorner, cornersAt, southwest, northwest, componentIn, cellAt, component, raise}
+use Rattle.shift.specs.Shift.{numerator, fourCorner, fourCornerSign, southwest, northwest, cornersIn, componentIn, signIn, cellAt, component, signAt, shiftOf, signsOf, exactIn, exactOf, roundedShift, roundingSigns, raise}
+use Rattle.shift.specs.Sign.{roundingSign}
 use Rattle.shift.specs.Needs.{CellIn, Weighted, CornersIn}
 use Rattle.shift.specs.declared.Cell.{Cell}
 use Rattle.shift.specs.declared.Corners.{Corners}
 use Rattle.shift.specs.declared.Distances.{Distances}
+use Rattle.shift.specs.declared.ExactShift.{ExactShift}
 use Rattle.shift.proofs.Rounding.{nearest-raised, nearest-even, one-nearest-even}
+use Rattle.shift.proofs.SignLaws.{Tells, sign-tells}
 use Rattle.shift.proofs.Sums.{four-corner-within}
 use Rattle.shift.proofs.Cells.{CellOf, edges, spacings, cell-of-point, cell-in, corners-in, weighted}
 
@@ -96,7 +100,7 @@ module _ {s : Shape} (z : Extent s) {S : List ℤ} (p : Sound s S) where
 
   -- in any cell of the grid
   module _ {k : Cell} (c : CellIn s k) where
-    pub corners-range : CornersIn (cornersAt S (southwest (s .cols) k) (northwest (s .cols) k))
+    pub corners-range : CornersIn (cornersIn (s .cols) S k)
     corners-range =
         let l = corners-in z c in
         record {
@@ -109,9 +113,13 @@ module _ {s : Shape} (z : Extent s) {S : List ℤ} (p : Sound s S) where
     whole : (k .distances .a + k .distances .b) * (k .distances .c + k .distances .d) ≡ s .dlon * s .dlat
     whole = rw (c .width, c .height)
 
-    component-is : componentIn (s .cols) S k ≡ nearest (s .dlon * s .dlat) (numerator (cornersAt S (southwest (s .cols) k) (northwest (s .cols) k)) (k .distances))
+    component-is : componentIn (s .cols) S k ≡ nearest (s .dlon * s .dlat) (numerator (cornersIn (s .cols) S k) (k .distances))
     unfolding componentIn fourCorner
     component-is = rw whole
+
+    sign-is : let n = numerator (cornersIn (s .cols) S k) (k .distances) in signIn (s .cols) S k ≡ roundingSign (s .dlon * s .dlat) n (nearest (s .dlon * s .dlat) n)
+    unfolding signIn fourCornerSign fourCorner
+    sign-is = rw whole
 
     pub component-range : Within maxShift (componentIn (s .cols) S k)
     unfolding componentIn
@@ -120,7 +128,7 @@ module _ {s : Shape} (z : Extent s) {S : List ℤ} (p : Sound s S) where
   -- in any cell of a point the numerator is the surface's
   module _ {x y : ℕ} {k : Cell} (o : CellOf s x y k) where
     abbrev corners : Corners
-    corners = cornersAt S (southwest (s .cols) k) (northwest (s .cols) k)
+    corners = cornersIn (s .cols) S k
 
     se : k .row * s .cols + suc (k .col) ≡ southwest (s .cols) k + 1
     se = omega arith
@@ -142,12 +150,19 @@ module _ {s : Shape} (z : Extent s) {S : List ℤ} (p : Sound s S) where
         let c = cell-in z o in
         nearest-raised maxShift (s .dlon * s .dlat) _ _ _ (mul-pos (spacings z .0) (spacings z .1)) numerator-is (raise-is (component-range c) ∙ ap (λ t. t +ℤ pos maxShift) (component-is c))
 
-  -- "On a side shared by two cells either cell gives the same shift"
-  pub shared-side : {x y : ℕ} {k k' : Cell} → CellOf s x y k → CellOf s x y k' → componentIn (s .cols) S k ≡ componentIn (s .cols) S k'
-  shared-side o o' =
-      component-is (cell-in z o)
-      ∙ ap (nearest (s .dlon * s .dlat)) (lowered (maxShift * (s .dlon * s .dlat)) _ _ (sym (numerator-is o) ∙ numerator-is o'))
-      ∙ sym (component-is (cell-in z o'))
+  -- "On a side shared by two cells either cell gives the same shift", and the same sign
+  module _ {x y : ℕ} {k k' : Cell} (o : CellOf s x y k) (o' : CellOf s x y k') where
+    shared-numerator : numerator (cornersIn (s .cols) S k) (k .distances) ≡ numerator (cornersIn (s .cols) S k') (k' .distances)
+    shared-numerator = lowered (maxShift * (s .dlon * s .dlat)) _ _ (sym (numerator-is o) ∙ numerator-is o')
+
+    pub shared-side : componentIn (s .cols) S k ≡ componentIn (s .cols) S k'
+    shared-side = component-is (cell-in z o) ∙ ap (nearest (s .dlon * s .dlat)) shared-numerator ∙ sym (component-is (cell-in z o'))
+
+    pub shared-sign : signIn (s .cols) S k ≡ signIn (s .cols) S k'
+    shared-sign =
+        sign-is (cell-in z o)
+        ∙ ap (λ n. roundingSign (s .dlon * s .dlat) n (nearest (s .dlon * s .dlat) n)) shared-numerator
+        ∙ sym (sign-is (cell-in z o'))
 
   -- at a point of the grid
   module _ {x y : ℕ} (hx : x ≤ (s .cols - 1) * s .dlon) (hy : y ≤ (s .rows - 1) * s .dlat) where
@@ -157,7 +172,7 @@ module _ {s : Shape} (z : Extent s) {S : List ℤ} (p : Sound s S) where
 
     -- equation 2's exact numerator; the denominator is the cell's area
     abbrev pub exactNumerator : ℤ
-    exactNumerator = let k = cellAt s x y in numerator (cornersAt S (southwest (s .cols) k) (northwest (s .cols) k)) (k .distances)
+    exactNumerator = let k = cellAt s x y in numerator (cornersIn (s .cols) S k) (k .distances)
 
     -- demand 2: it is the exact fraction, rounded once, a tie to the even number
     pub shift-rounded : NearestEven (s .dlon * s .dlat) exactNumerator (component s S x y)
@@ -167,6 +182,11 @@ module _ {s : Shape} (z : Extent s) {S : List ℤ} (p : Sound s S) where
     -- and no other number is
     pub shift-only : {r : ℤ} → NearestEven (s .dlon * s .dlat) exactNumerator r → r ≡ component s S x y
     shift-only h = one-nearest-even (mul-pos (spacings z .0) (spacings z .1)) h shift-rounded
+
+    -- document 02, request 7: the sign tells on which side of the shift the exact fraction lies, and by 0 that it is whole
+    pub shift-tells : Tells (s .dlon * s .dlat) exactNumerator (component s S x y) (signAt s S x y)
+    unfolding component signAt
+    shift-tells = let c = cell-in z (cell-of-point z hx hy) in rw (sign-is c, component-is c) (sign-tells (s .dlon * s .dlat) _ (mul-pos (spacings z .0) (spacings z .1)))
 
     shift-nearest : Nearest (s .dlon * s .dlat) (surface (s .dlon) (s .dlat) (s .cols - 2) (s .rows - 2) (raisedNodes (s .cols) S) x y) (raise (component s S x y))
     unfolding component
@@ -222,9 +242,19 @@ module _ {s : Shape} (z : Extent s) {x y : ℕ} (hx : x ≤ (s .cols - 1) * s .d
   found-weights = weighted z found-in
 
   module _ {S : List ℤ} (p : Sound s S) where
-    pub found-range : CornersIn (cornersAt S (southwest (s .cols) k) (northwest (s .cols) k))
+    pub found-range : CornersIn (cornersIn (s .cols) S k)
     found-range = corners-range z p found-in
 
-    pub found-shift : fourCorner (cornersAt S (southwest (s .cols) k) (northwest (s .cols) k)) (k .distances) ≡ component s S x y
-    unfolding component componentIn
-    found-shift = ap (λ (c : Cell). fourCorner (cornersAt S (southwest (s .cols) c) (northwest (s .cols) c)) (c .distances)) e
+  pub found-exact : (ns : Nodes) → exactIn (cornersIn (s .cols) (ns .lat) k) (cornersIn (s .cols) (ns .lon) k) (k .distances) ≡ exactOf s ns x y
+  unfolding exactOf
+  found-exact ns = ap (λ (c : Cell). exactIn (cornersIn (s .cols) (ns .lat) c) (cornersIn (s .cols) (ns .lon) c) (c .distances)) e
+
+-- the exact shift, rounded, is the shift, and its signs are the signs
+module _ (s : Shape) (ns : Nodes) (x y : ℕ) {v : ExactShift} (e : v ≡ exactOf s ns x y) where
+  pub exact-shift : roundedShift v ≡ shiftOf s ns x y
+  unfolding exactOf component componentIn fourCorner
+  exact-shift = ap roundedShift e
+
+  pub exact-signs : roundingSigns v (roundedShift v) ≡ signsOf s ns x y
+  unfolding exactOf signAt signIn fourCornerSign fourCorner
+  exact-signs = ap (λ (v : ExactShift). roundingSigns v (roundedShift v)) e

@@ -1,3 +1,4 @@
 pub mod Round
+pub mod Sign
 pub mod Shift
 pub mod Needs

@@ -6,6 +6,7 @@ use Rattle.grid.specs.declared.Shape.{Shape}
 use Rattle.shift.specs.declared.Cell.{Cell}
 use Rattle.shift.specs.declared.Corners.{Corners}
 use Rattle.shift.specs.declared.Distances.{Distances}
+use Rattle.shift.specs.declared.ExactShift.{ExactShift}
 use Rattle.grid.specs.Nodes.{maxShift}
 
 -- a cell of the grid, with distances that make up its sides
@@ -28,3 +29,10 @@ pub record CornersIn (s : Corners) : Type 0 where
   pub se : Within maxShift (s .s2)
   pub nw : Within maxShift (s .s3)
   pub ne : Within maxShift (s .s4)
+
+-- an exact shift of such corners and distances
+pub record ExactIn (e : ExactShift) : Type 0 where
+  pub lat-in : Within 4_860_000_000_000_000_000 (e .lat)
+  pub lon-in : Within 4_860_000_000_000_000_000 (e .lon)
+  pub positive : 0 < e .denominator
+  pub small : e .denominator ≤ 810_000_000_000

@@ -3,8 +3,7 @@ use mir.Syntax.{w64}
 use mir.Val.{SFits}
 use mir.Facts.{toZ-ofZ}
 use mathlib.Core.Path.{sym, ap, _∙_}
-use Rattle.convert.specs.Convert.{outcome27}
-use Rattle.convert.specs.Batch.{pair27}
+use Rattle.convert.specs.Convert.{outcome27, numbers27}
 use Rattle.dagglehurst.proofs.Laws.{stored-refusal, stored-answer}
 use Rattle.dagglehurst.proofs.dagglehurst_to27.Statement.{statement}
 use Rattle.dagglehurst.proofs.dagglehurst_to27.Tie as tie
@@ -27,6 +26,9 @@ refused-requires c κs = search needs
 enum-known-p : tie.Need-enum-known-p
 enum-known-p c = search needs
 
+slice-aggregate-put-answer : tie.Need-slice-aggregate-put-answer
+slice-aggregate-put-answer c = search needs
+
 put-answer-requires : tie.Need-put-answer-requires
 put-answer-requires c κs = search needs
 
@@ -35,21 +37,22 @@ returns c =
     let d = c .before .before .before .before in
     let s = d .before .before .before in
     let o = rw (d .before .before .header-in .ensures, d .before .new .ensures, toZ-ofZ (s .fits .north), toZ-ofZ (s .fits .east)) at (d .to27 .ensures) in
-    stored-refusal pair27 (s .args .answer .now) (ap outcome27 (sym (c .before .before .why .given .1)) ∙ o) (c .refused .ensures)
+    stored-refusal numbers27 (s .args .answer .now) (ap outcome27 (sym (c .before .before .why .given .1)) ∙ o) (c .refused .ensures)
 
 same-length : tie.Need-same-length
 same-length c = search needs
 
 returns-2 : tie.Need-returns-2
 returns-2 c =
-    let v = c .before .before .before .before .before .before .before .before in
+    let t = c .before .before .before .before in
+    let v = t .before .before .before .before .before in
     let d = v .before .before in
     let s = d .before .before .before in
     let o = rw (d .before .before .header-in .ensures, d .before .new .ensures, toZ-ofZ (s .fits .north), toZ-ofZ (s .fits .east)) at (d .to27 .ensures) in
     let a = v .p .given .0 .0 in
-    let y : SFits w64 (a .lat .0) = search (needs, c .before .before .before .struct-told .given) in
-    let x : SFits w64 (a .lon .0) = search (needs, c .before .before .struct-told2 .given) in
-    stored-answer pair27 (s .args .answer .now) (ap outcome27 (sym (v .p .given .1)) ∙ o) (rw (toZ-ofZ y, toZ-ofZ x) at (c .before .put-answer .ensures))
+    let y : SFits w64 (a .lat .0) = search (needs, t .before .struct-told .given) in
+    let x : SFits w64 (a .lon .0) = search (needs, t .struct-told2 .given) in
+    stored-answer numbers27 (s .args .answer .now) (ap outcome27 (sym (v .p .given .1)) ∙ o) (rw (toZ-ofZ y, toZ-ofZ x) at (c .before .put-answer .ensures))
 
 pub dagglehurst-to27-spec : {M : Type 1} → statement M
 dagglehurst-to27-spec =
@@ -61,6 +64,7 @@ dagglehurst-to27-spec =
     enum-known-why
     refused-requires
     enum-known-p
+    slice-aggregate-put-answer
     put-answer-requires
     returns
     same-length

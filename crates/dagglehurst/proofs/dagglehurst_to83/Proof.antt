@@ -1,10 +1,7 @@
 use borrow.Author.Needs.{needs}
-use mir.Syntax.{w64}
-use mir.Val.{SFits}
 use mir.Facts.{toZ-ofZ}
 use mathlib.Core.Path.{sym, ap, _∙_}
-use Rattle.convert.specs.Convert.{outcome83}
-use Rattle.convert.specs.Batch.{pair83}
+use Rattle.convert.specs.Convert.{outcome83, numbers83}
 use Rattle.dagglehurst.proofs.Laws.{stored-refusal, stored-answer}
 use Rattle.dagglehurst.proofs.dagglehurst_to83.Statement.{statement}
 use Rattle.dagglehurst.proofs.dagglehurst_to83.Tie as tie
@@ -24,8 +21,14 @@ enum-known-why c = search needs
 refused-requires : tie.Need-refused-requires
 refused-requires c κs = search needs
 
-enum-known-f : tie.Need-enum-known-f
-enum-known-f c = search needs
+enum-known-a : tie.Need-enum-known-a
+enum-known-a c = search needs
+
+numbers-requires : tie.Need-numbers-requires
+numbers-requires c κs = search needs
+
+slice-aggregate-put-answer : tie.Need-slice-aggregate-put-answer
+slice-aggregate-put-answer c = search needs
 
 put-answer-requires : tie.Need-put-answer-requires
 put-answer-requires c κs = search needs
@@ -35,21 +38,19 @@ returns c =
     let d = c .before .before .before .before in
     let s = d .before .before .before in
     let o = rw (d .before .before .header-in .ensures, d .before .new .ensures, toZ-ofZ (s .fits .north), toZ-ofZ (s .fits .east)) at (d .to83 .ensures) in
-    stored-refusal pair83 (s .args .answer .now) (ap outcome83 (sym (c .before .before .why .given .1)) ∙ o) (c .refused .ensures)
+    stored-refusal numbers83 (s .args .answer .now) (ap outcome83 (sym (c .before .before .why .given .1)) ∙ o) (c .refused .ensures)
 
 same-length : tie.Need-same-length
 same-length c = search needs
 
 returns-2 : tie.Need-returns-2
 returns-2 c =
-    let v = c .before .before .before .before .before .before .before .before in
+    let n = c .before .before .before .before in
+    let v = n .before .before in
     let d = v .before .before in
     let s = d .before .before .before in
     let o = rw (d .before .before .header-in .ensures, d .before .new .ensures, toZ-ofZ (s .fits .north), toZ-ofZ (s .fits .east)) at (d .to83 .ensures) in
-    let a = v .f .given .0 .0 in
-    let y : SFits w64 (a .lat .0) = search (needs, c .before .before .before .struct-told .given) in
-    let x : SFits w64 (a .lon .0) = search (needs, c .before .before .struct-told2 .given) in
-    stored-answer pair83 (s .args .answer .now) (ap outcome83 (sym (v .f .given .1)) ∙ o) (rw (toZ-ofZ y, toZ-ofZ x) at (c .before .put-answer .ensures))
+    stored-answer numbers83 (s .args .answer .now) (ap outcome83 (sym (v .a .given .1)) ∙ o) (rw (n .numbers .ensures .0) at (c .before .put-answer .ensures))
 
 pub dagglehurst-to83-spec : {M : Type 1} → statement M
 dagglehurst-to83-spec =
@@ -60,7 +61,9 @@ dagglehurst-to83-spec =
     to83-requires
     enum-known-why
     refused-requires
-    enum-known-f
+    enum-known-a
+    numbers-requires
+    slice-aggregate-put-answer
     put-answer-requires
     returns
     same-length

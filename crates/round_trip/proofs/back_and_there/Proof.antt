@@ -1,5 +1,5 @@
 use Rattle.grid.specs.Grid.{gridOf}
-use Rattle.figures.proofs.Laws.{refused-first}
+use Rattle.figures.specs.Outcome.{mapAnswer}
 use Rattle.round_trip.specs.RoundTrip.{goesAgain}
 use Rattle.round_trip.proofs.Laws.{back-there}
 use Rattle.convert.specs.Convert.{outcome27}
@@ -22,7 +22,7 @@ to83-requires c κs = search needs
 
 returns : tie.Need-returns
 unfolding goesAgain
-returns c = refused-first _ (ap outcome27 (sym (c .before .why .given .1)) ∙ c .before .before .before .to27 .ensures)
+returns c = ap (mapAnswer _) (ap outcome27 (sym (c .before .why .given .1)) ∙ c .before .before .before .to27 .ensures)
 
 returns-2 : tie.Need-returns-2
 returns-2 c = let a = c .before .before .before .before .before .args in c .to83 .ensures ∙ back-there (gridOf (a .h) (a .lat .now) (a .lon .now)) (a .f) (ap outcome27 (sym (c .before .before .p .given .1)) ∙ c .before .before .before .before .to27 .ensures)

@@ -14,8 +14,8 @@ to83-requires c κs = search needs
 enum-known-why : tie.Need-enum-known-why
 enum-known-why c = search needs
 
-enum-known-f : tie.Need-enum-known-f
-enum-known-f c = search needs
+enum-known-a : tie.Need-enum-known-a
+enum-known-a c = search needs
 
 to27-requires : tie.Need-to27-requires
 to27-requires c κs = search needs
@@ -25,8 +25,8 @@ unfolding comesBack
 returns c = refused-first _ (ap outcome83 (sym (c .before .why .given .1)) ∙ c .before .before .before .to83 .ensures)
 
 returns-2 : tie.Need-returns-2
-returns-2 c = let a = c .before .before .before .before .before .args in c .to27 .ensures ∙ there-back (gridOf (a .h) (a .lat .now) (a .lon .now)) (a .p) (ap outcome83 (sym (c .before .before .f .given .1)) ∙ c .before .before .before .before .to83 .ensures)
+returns-2 c = let a = c .before .before .before .before .before .args in c .to27 .ensures ∙ there-back (gridOf (a .h) (a .lat .now) (a .lon .now)) (a .p) (ap outcome83 (sym (c .before .before .a .given .1)) ∙ c .before .before .before .before .to83 .ensures)
 
 pub there-and-back-spec : {M : Type 1} → statement M
 there-and-back-spec =
-    tie.close (tie.spec to83-requires enum-known-why enum-known-f to27-requires returns returns-2)
+    tie.close (tie.spec to83-requires enum-known-why enum-known-a to27-requires returns returns-2)

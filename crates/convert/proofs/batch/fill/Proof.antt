@@ -25,23 +25,29 @@ loop-holds : tie.Need-loop-holds Inv-loop μ-loop
 unfolding answersTo refusalsTo
 loop-holds c = (omega arith, c .before .before .pre .1, refl, refl)
 
-shared-slice-read-way : tie.Need-shared-slice-read-way Inv-loop μ-loop
-shared-slice-read-way c = search needs
+shared-slice-read-convert-one : tie.Need-shared-slice-read-convert-one Inv-loop μ-loop
+shared-slice-read-convert-one c = search needs
 
-mul-number-at : tie.Need-mul-number-at Inv-loop μ-loop
-mul-number-at c = search needs
+mul-convert-one : tie.Need-mul-convert-one Inv-loop μ-loop
+mul-convert-one c = search needs
 
-number-at-requires : tie.Need-number-at-requires Inv-loop μ-loop
-number-at-requires c κs = search needs
+mul-convert-one-2 : tie.Need-mul-convert-one-2 Inv-loop μ-loop
+mul-convert-one-2 c = search needs
 
-mul-number-at-2 : tie.Need-mul-number-at-2 Inv-loop μ-loop
-mul-number-at-2 c = search needs
+shared-slice-copy-out-convert-one : tie.Need-shared-slice-copy-out-convert-one Inv-loop μ-loop
+shared-slice-copy-out-convert-one c = omega (arith, c .before .before .loop .inv .1)
 
-add-number-at : tie.Need-add-number-at Inv-loop μ-loop
-add-number-at c = search needs
+mul-convert-one-3 : tie.Need-mul-convert-one-3 Inv-loop μ-loop
+mul-convert-one-3 c = search needs
 
-number-at-requires-2 : tie.Need-number-at-requires-2 Inv-loop μ-loop
-number-at-requires-2 c κs = search needs
+add-convert-one : tie.Need-add-convert-one Inv-loop μ-loop
+add-convert-one c = search needs
+
+mul-convert-one-4 : tie.Need-mul-convert-one-4 Inv-loop μ-loop
+mul-convert-one-4 c = search needs
+
+shared-slice-copy-out-convert-one-2 : tie.Need-shared-slice-copy-out-convert-one-2 Inv-loop μ-loop
+shared-slice-copy-out-convert-one-2 c = omega (arith, c .before .before .before .loop .inv .1)
 
 convert-one-requires : tie.Need-convert-one-requires Inv-loop μ-loop
 convert-one-requires c κs = search needs
@@ -63,8 +69,8 @@ unfolding answersTo refusalsTo
 loop-again c =
     let a = c .before .before .before .before .before .before .before .before .before .before .before .before .before .before .before .args in
     let l = c .before .before .before .before .before .before .before .before .before .before .before .before .loop in
-    let y = element (c .before .before .before .before .before .before .before .before .before .number-at .ok) ∙ c .before .before .before .before .before .before .before .before .before .number-at .ensures in
-    let x = element (c .before .before .before .before .before .before .before .before .number-at2 .ok) ∙ c .before .before .before .before .before .before .before .before .number-at2 .ensures in
+    let y = element (c .before .before .before .before .before .before .before .before .before .convert-one-arg .given) in
+    let x = element (c .before .before .before .before .before .before .before .before .convert-one-arg2 .given) in
     let o = c .before .before .before .before .before .before .before .convert-one .ensures ∙ (λ i. converted (gridOf (a .h) (a .lat .now) (a .lon .now)) (getD (a .ways .now) (l .k) 0) (y i) (x i)) in
     let t = c .before .before .before .before .before .store .ensures in (
       omega arith,
@@ -92,12 +98,14 @@ fill-spec =
     Inv-loop
     μ-loop
     loop-holds
-    shared-slice-read-way
-    mul-number-at
-    number-at-requires
-    mul-number-at-2
-    add-number-at
-    number-at-requires-2
+    shared-slice-read-convert-one
+    mul-convert-one
+    mul-convert-one-2
+    shared-slice-copy-out-convert-one
+    mul-convert-one-3
+    add-convert-one
+    mul-convert-one-4
+    shared-slice-copy-out-convert-one-2
     convert-one-requires
     store-requires
     put-byte-requires

@@ -3,11 +3,11 @@ use native.Mathlib.Omega.{arith}
 use mir.Syntax.{w64}
 use mir.Val.{SFits}
 use mir.Facts.{toZ-ofZ}
-use Prim.Native.Nat.{_+_, _*_}
+use Prim.Native.Nat.{_*_}
 use mathlib.Core.Path.{sym, ap, _∙_}
-use lib.ListN.{set}
-use Rattle.convert.specs.Batch.{pairOutcome}
-use Rattle.convert.specs.Batch.{refusalNumber, stored}
+use mathlib.Core.List.{[], _∷_}
+use lib.Seq.{sets}
+use Rattle.convert.specs.Batch.{convertedOutcome, refusalNumber, stored}
 use Rattle.figures.proofs.Laws.{number-small}
 use Rattle.convert.proofs.batch.store.Statement.{statement}
 use Rattle.convert.proofs.batch.store.Tie as tie
@@ -24,20 +24,29 @@ cast-result c = record { fits = omega (arith, c .number .ensures, number-small (
 enum-known-c-2 : tie.Need-enum-known-c-2
 enum-known-c-2 c = search needs
 
-mul-put : tie.Need-mul-put
-mul-put c = search needs
+mul-put-all : tie.Need-mul-put-all
+mul-put-all c = search needs
 
-put-requires : tie.Need-put-requires
-put-requires c κs = search needs
+numbers-requires : tie.Need-numbers-requires
+numbers-requires c κs = search needs
 
-mul-put-2 : tie.Need-mul-put-2
-mul-put-2 c = search needs
+slice-aggregate-put-all : tie.Need-slice-aggregate-put-all
+slice-aggregate-put-all c = search needs
 
-add-put : tie.Need-add-put
-add-put c = search needs
+put-all-requires : tie.Need-put-all-requires
+put-all-requires c κs = search needs
 
-put-requires-2 : tie.Need-put-requires-2
-put-requires-2 c κs = search needs
+enum-known-c-3 : tie.Need-enum-known-c-3
+enum-known-c-3 c = search needs
+
+mul-put-all-2 : tie.Need-mul-put-all-2
+mul-put-all-2 c = search needs
+
+slice-aggregate-put-all-2 : tie.Need-slice-aggregate-put-all-2
+slice-aggregate-put-all-2 c = search needs
+
+put-all-requires-2 : tie.Need-put-all-requires-2
+put-all-requires-2 c κs = search needs
 
 returns : tie.Need-returns
 returns c = search needs
@@ -47,14 +56,25 @@ same-length c = search needs
 
 returns-2 : tie.Need-returns-2
 returns-2 c =
-    let s = c .before .before .before .before .before .before .before .before .before in
-    let g = c .before .before .before .before .before .before .before .c2 .given in
-    let y : SFits w64 (g .0 .0) = search needs in
-    let x : SFits w64 (g .0 .1 .0) = search needs in
-    let p = rw (toZ-ofZ x) at (c .before .put2 .ensures) in
-    let q = rw (toZ-ofZ y) at (c .before .before .before .before .put .ensures) in (
-      ap (λ o. refusalNumber (pairOutcome o)) (sym (g .1)),
-      p ∙ ap (λ l. set l (2 * s .args .k + 1) (g .0 .1 .0)) q ∙ ap (λ o. stored (s .args .k) (pairOutcome o) (s .args .answers .now)) (sym (g .1)),
+    let s = c .before .before .before .before .before .before .before .before in
+    let g = c .before .before .before .before .before .before .c2 .given in
+    let e = c .before .put-all .ensures ∙ ap (sets (s .args .answers .now) (4 * s .args .k)) (c .before .before .before .numbers .ensures .0) in (
+      ap (λ o. refusalNumber (convertedOutcome o)) (sym (g .1)),
+      e ∙ ap (λ o. stored (s .args .k) (convertedOutcome o) (s .args .answers .now)) (sym (g .1)),
+    )
+
+same-length-2 : tie.Need-same-length-2
+same-length-2 c = search needs
+
+returns-3 : tie.Need-returns-3
+returns-3 c =
+    let s = c .before .before .before .before .before .before .before .before .before .before .before in
+    let g = c .before .before .before .before .before .before .before .before .before .c3 .given in
+    let y : SFits w64 (g .0 .0 .lat .0) = search needs in
+    let x : SFits w64 (g .0 .0 .lon .0) = search needs in
+    let e = c .before .put-all2 .ensures ∙ (λ i. sets (s .args .answers .now) (4 * s .args .k) (toZ-ofZ y i ∷ toZ-ofZ x i ∷ [])) in (
+      ap (λ o. refusalNumber (convertedOutcome o)) (sym (g .1)),
+      e ∙ ap (λ o. stored (s .args .k) (convertedOutcome o) (s .args .answers .now)) (sym (g .1)),
     )
 
 pub store-spec : {M : Type 1} → statement M
@@ -65,11 +85,16 @@ store-spec =
     number-requires
     cast-result
     enum-known-c-2
-    mul-put
-    put-requires
-    mul-put-2
-    add-put
-    put-requires-2
+    mul-put-all
+    numbers-requires
+    slice-aggregate-put-all
+    put-all-requires
+    enum-known-c-3
+    mul-put-all-2
+    slice-aggregate-put-all-2
+    put-all-requires-2
     returns
     same-length
-    returns-2)
+    returns-2
+    same-length-2
+    returns-3)

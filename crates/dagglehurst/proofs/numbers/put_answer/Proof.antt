@@ -1,8 +1,7 @@
 use borrow.Author.Needs.{needs}
-use native.Mathlib.Omega.{arith}
-use mathlib.Core.Path.{refl}
-use Rattle.dagglehurst.specs.Points.{pairAfter}
-use Rattle.dagglehurst.proofs.Laws.{front-none, front-more, pair-short, pair-fits}
+use mathlib.Core.Path.{refl, _∙_}
+use Rattle.dagglehurst.specs.Points.{answerAfter}
+use Rattle.dagglehurst.proofs.Laws.{answer-short, answer-fits, front-sets}
 use Rattle.dagglehurst.proofs.numbers.put_answer.Statement.{statement}
 use Rattle.dagglehurst.proofs.numbers.put_answer.Tie as tie
 
@@ -10,16 +9,13 @@ too-short-requires : tie.Need-too-short-requires
 too-short-requires c κs = search needs
 
 returns : tie.Need-returns
-unfolding pairAfter
+unfolding answerAfter
 returns c =
     let a = c .before .before .args in
-    rw (pair-short _ (a .room .now) (omega (arith, c .before .if1 .taken))) (c .too-short .ensures, refl)
+    rw (answer-short (a .numbers .now) (a .room .now) (c .before .if1 .taken)) (c .too-short .ensures, refl)
 
-put-requires : tie.Need-put-requires
-put-requires c κs = search needs
-
-put-requires-2 : tie.Need-put-requires-2
-put-requires-2 c κs = search needs
+put-all-requires : tie.Need-put-all-requires
+put-all-requires c κs = search needs
 
 answered-requires : tie.Need-answered-requires
 answered-requires c κs = search needs
@@ -28,24 +24,15 @@ same-length : tie.Need-same-length
 same-length c = search needs
 
 returns-2 : tie.Need-returns-2
-unfolding pairAfter
+unfolding answerAfter
 returns-2 c =
-    let e = c .before .before .before .before .before .before .before in
-    let s = e .before in
-    let a = s .args in
+    let p = c .before .before in
+    let e = p .before .before in
+    let a = e .before .args in
     let h = e .if1 .left in
-    let y = front-more 0 (s .fits .lat) (c .before .before .before .before .before .put .ensures) (front-none (a .room .now)) refl (omega (arith, h)) in
-    let x = front-more 1 (s .fits .lon) (c .before .before .put2 .ensures) y refl (omega (arith, h)) in
-    rw (pair-fits _ (a .room .now) (omega (arith, h))) (c .answered .ensures, x .is)
+    rw (answer-fits (a .numbers .now) (a .room .now) h) (c .answered .ensures, p .put-all .ensures ∙ front-sets (a .numbers .now) (a .room .now) h)
 
 pub put-answer-spec : {M : Type 1} → statement M
 put-answer-spec =
     tie.close
-    (tie.spec
-    too-short-requires
-    returns
-    put-requires
-    put-requires-2
-    answered-requires
-    same-length
-    returns-2)
+    (tie.spec too-short-requires returns put-all-requires answered-requires same-length returns-2)

@@ -1,13 +1,14 @@
 use borrow.Author.Needs.{needs}
-use Prim.Native.Nat.{ℕ}
+use Prim.Native.Nat.{ℕ, _*_}
 use mathlib.Core.Path.{sym}
 use lib.ListN.{length-replicate}
+use Rattle.requests.specs.Replies.{maxText}
 use Rattle.list_io.proofs.serve.serve.Statement.{statement}
 use Rattle.list_io.proofs.serve.serve.Tie as tie
 
--- by the law: an array of this length is not counted out
+-- by the law, since an array of this length is not counted out: the room is the longest line for each byte of a block
 slice-aggregate-serve-in : tie.Need-slice-aggregate-serve-in
-slice-aggregate-serve-in c = sym (length-replicate {A = ℕ} 3080192 0)
+slice-aggregate-serve-in c = sym (length-replicate {A = ℕ} (maxText * 65536) 0)
 
 serve-in-requires : tie.Need-serve-in-requires
 serve-in-requires c κs = search needs

@@ -12,8 +12,8 @@ use Rattle.listing.proofs.putting.answer_batch.Statement.{statement}
 use Rattle.listing.proofs.putting.answer_batch.Tie as tie
 
 -- the arrays have the room
-rooms : {n : ℕ} → n ≤ maxBatch → (2 * n ≤ length (replicate {A = ℤ} 4096 (pos 0))) × (n ≤ length (replicate {A = ℕ} 2048 0))
-rooms h = (omega (arith, length-replicate {A = ℤ} 4096 (pos 0)), omega (arith, length-replicate {A = ℕ} 2048 0))
+rooms : {n : ℕ} → n ≤ maxBatch → (4 * n ≤ length (replicate {A = ℤ} 8192 (pos 0))) × (n ≤ length (replicate {A = ℕ} 2048 0))
+rooms h = (omega (arith, length-replicate {A = ℤ} 8192 (pos 0)), omega (arith, length-replicate {A = ℕ} 2048 0))
 
 slice-aggregate-convert-batch : tie.Need-slice-aggregate-convert-batch
 slice-aggregate-convert-batch c = sym (length-take-le _ _ (c .before .before .before .pre .2))
@@ -46,7 +46,7 @@ returns c =
     let p = s .pre in
     let e = c .before .before .before .before .before .before .before .before .convert-batch .ensures .1 in
     let r = rooms (p .1) in
-    answers-put (gridOf (a .h) (a .lat .now) (a .lon .now)) (p .0) (a .n) (a .ways .now) (a .points .now) (replicate 4096 (pos 0)) (replicate 2048 0) (p .2) (p .3) (r .0) (r .1) (e .0) (e .1)
+    answers-put (gridOf (a .h) (a .lat .now) (a .lon .now)) (p .0) (a .n) (a .ways .now) (a .points .now) (replicate 8192 (pos 0)) (replicate 2048 0) (p .2) (p .3) (r .0) (r .1) (e .0) (e .1)
     (c .before .before .put-answers .ensures)
 
 pub answer-batch-spec : {M : Type 1} → statement M

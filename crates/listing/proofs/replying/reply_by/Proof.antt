@@ -2,7 +2,6 @@ use borrow.Author.Needs.{needs}
 use native.Mathlib.Omega.{arith}
 use mathlib.Core.Path.{ap}
 use borrow.Author.Tests.{eq-eqb, ne-eqb}
-use mir.Facts.{toZ-ofZ}
 use Rattle.decimal.proofs.Signs.{read-pos}
 use Rattle.convert.specs.Batch.{wayTo83}
 use Rattle.requests.specs.declared.Reply.{Reply}
@@ -17,24 +16,24 @@ returns : tie.Need-returns
 unfolding replyBy
 returns c = rw (ne-eqb (c .before .args .number) 0 (c .if1 .taken)) (ap Reply.No (read-pos (c .before .args .number) (omega arith)))
 
-new-requires : tie.Need-new-requires
-new-requires c κs = search needs
+shifted-at-requires : tie.Need-shifted-at-requires
+shifted-at-requires c κs = search needs
 
 returns-2 : tie.Need-returns-2
 unfolding replyBy
 returns-2 c =
     let s = c .before .before .before in
-    rw (eq-eqb (s .args .number) 0 (c .before .before .if1 .left), eq-eqb (s .args .way) wayTo83 (c .before .if2 .taken)) (ap (λ f. Reply.In83 f) (rw (toZ-ofZ (s .fits .y), toZ-ofZ (s .fits .x)) at (c .new .ensures)))
+    rw (eq-eqb (s .args .number) 0 (c .before .before .if1 .left), eq-eqb (s .args .way) wayTo83 (c .before .if2 .taken)) (ap (λ a. Reply.In83 a) (c .shifted-at .ensures))
 
-new-requires-2 : tie.Need-new-requires-2
-new-requires-2 c κs = search needs
+point-at-requires : tie.Need-point-at-requires
+point-at-requires c κs = search needs
 
 returns-3 : tie.Need-returns-3
 unfolding replyBy
 returns-3 c =
     let s = c .before .before .before in
-    rw (eq-eqb (s .args .number) 0 (c .before .before .if1 .left), ne-eqb (s .args .way) wayTo83 (c .before .if2 .left)) (ap (λ p. Reply.In27 p) (rw (toZ-ofZ (s .fits .y), toZ-ofZ (s .fits .x)) at (c .new2 .ensures)))
+    rw (eq-eqb (s .args .number) 0 (c .before .before .if1 .left), ne-eqb (s .args .way) wayTo83 (c .before .if2 .left)) (ap (λ p. Reply.In27 p) (c .point-at .ensures))
 
 pub reply-by-spec : {M : Type 1} → statement M
 reply-by-spec =
-    tie.close (tie.spec cast-t6 returns new-requires returns-2 new-requires-2 returns-3)
+    tie.close (tie.spec cast-t6 returns shifted-at-requires returns-2 point-at-requires returns-3)
