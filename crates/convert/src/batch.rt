@@ -120,16 +120,16 @@ fn convert_one<'a>(h: Header, lat: &'a [i64], lon: &'a [i64], way: u8, y: i64, x
     ensures { λ r. ⌜ convertedOutcome r ≡ converted (gridOf h (now (lat .entry)) (now (lon .entry))) way y x ⌝ }
 {
     if way == TO83 {
-        return there(h, lat, lon, Point27::new(y, x));
+        return forward_one(h, lat, lon, Point27::new(y, x));
     }
     if way == TO27 {
-        return back(h, lat, lon, Point83::new(y, x));
+        return inverse_one(h, lat, lon, Point83::new(y, x));
     }
     Converted::Refused(Refusal::Form(0))
 }
 
 // As `super::forward`, but straight to what is stored: the loop is the faster for it.
-fn there<'a>(h: Header, lat: &'a [i64], lon: &'a [i64], p: Point27) -> Converted
+fn forward_one<'a>(h: Header, lat: &'a [i64], lon: &'a [i64], p: Point27) -> Converted
     requires { ⌜ Passes (gridOf h (now lat) (now lon)) ⌝ }
     ensures { λ r. ⌜ convertedOutcome r ≡ mapAnswer in83 (to83 (gridOf h (now (lat .entry)) (now (lon .entry))) p) ⌝ }
 {
@@ -139,7 +139,7 @@ fn there<'a>(h: Header, lat: &'a [i64], lon: &'a [i64], p: Point27) -> Converted
     }
 }
 
-fn back<'a>(h: Header, lat: &'a [i64], lon: &'a [i64], f: Point83) -> Converted
+fn inverse_one<'a>(h: Header, lat: &'a [i64], lon: &'a [i64], f: Point83) -> Converted
     requires { ⌜ Passes (gridOf h (now lat) (now lon)) ⌝ }
     ensures { λ r. ⌜ convertedOutcome r ≡ mapAnswer in27 (to27 (gridOf h (now (lat .entry)) (now (lon .entry))) f) ⌝ }
 {

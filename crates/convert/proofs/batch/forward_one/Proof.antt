@@ -2,12 +2,12 @@ use mathlib.Core.Path.{_≡_, sym, ap, _∙_}
 use Rattle.grid.proofs.Passing.{good}
 use Rattle.convert.specs.Points.{positionOf}
 use Rattle.convert.specs.declared.offsets.Place.{Place}
-use Rattle.convert.proofs.There.{outside, place-in, on-within, rounded-within, comes-to}
+use Rattle.convert.proofs.ToNad83.{outside, place-in, on-within, rounded-within, comes-to}
 use Rattle.figures.specs.Outcome.{answered, mapAnswer}
 use Rattle.convert.specs.Batch.{in83}
 use borrow.Author.Needs.{needs}
-use Rattle.convert.proofs.batch.there.Statement.{statement}
-use Rattle.convert.proofs.batch.there.Tie as tie
+use Rattle.convert.proofs.batch.forward_one.Statement.{statement}
+use Rattle.convert.proofs.batch.forward_one.Tie as tie
 
 -- the place that was found for the point
 module _ (c : tie.After-known-told) where
@@ -44,8 +44,8 @@ returns-2 c =
     let s = start k in
     ap (mapAnswer in83) (ap answered (c .shift-point .ensures) ∙ comes-to _ (s .args .p) (s .pre) (found k) (c .before .exact-at .ensures .0))
 
-pub there-spec : {M : Type 1} → statement M
-there-spec =
+pub forward-one-spec : {M : Type 1} → statement M
+forward-one-spec =
     tie.close
     (tie.spec
     position-of-requires

@@ -3,8 +3,8 @@ use mathlib.Core.Path.{sym, ap, _∙_}
 use Rattle.figures.specs.Outcome.{mapAnswer}
 use Rattle.convert.specs.Convert.{outcome27}
 use Rattle.convert.specs.Batch.{in27}
-use Rattle.convert.proofs.batch.back.Statement.{statement}
-use Rattle.convert.proofs.batch.back.Tie as tie
+use Rattle.convert.proofs.batch.inverse_one.Statement.{statement}
+use Rattle.convert.proofs.batch.inverse_one.Tie as tie
 
 inverse-requires : tie.Need-inverse-requires
 inverse-requires c κs = search needs
@@ -21,5 +21,5 @@ returns c = ap (mapAnswer in27) (ap outcome27 (sym (c .before .why .given .1)) �
 returns-2 : tie.Need-returns-2
 returns-2 c = ap (mapAnswer in27) (ap outcome27 (sym (c .before .p .given .1)) ∙ c .before .before .before .inverse .ensures)
 
-pub back-spec : {M : Type 1} → statement M
-back-spec = tie.close (tie.spec inverse-requires enum-known-why enum-known-p returns returns-2)
+pub inverse-one-spec : {M : Type 1} → statement M
+inverse-one-spec = tie.close (tie.spec inverse-requires enum-known-why enum-known-p returns returns-2)
