@@ -10,6 +10,21 @@ typedef long long number;
 static number south, west, dlat, dlon, rows, cols, width, height;
 static number lat_shifts[2048], lon_shifts[2048];
 
+// Longitudes are places on a circle: half a turn, in thousandths and in hundred-thousandths of an arc second.
+static const number half27 = 648000000, half83 = 64800000000;
+
+// Whether a number names a place on the circle.
+static int is_place(number lon, number half) { return -half <= lon && lon < half; }
+
+// The name of the place at a number that is less than a turn past an end of the range.
+static number named(number lon, number half) {
+    if (lon >= half)
+        return lon - 2 * half;
+    if (lon < -half)
+        return lon + 2 * half;
+    return lon;
+}
+
 static int read_grid(void) {
     char line[256];
     int nodes = 0;
@@ -77,10 +92,14 @@ static int refuse(int why) {
 static int to83(number lat, number lon) {
     number x = lon - west, y = lat - south;
     struct shift lat_shift, lon_shift;
-    if (x < 0 || y < 0 || x > width || y > height)
+    // eastward from the west edge
+    if (x < 0)
+        x += 2 * half27;
+    if (!is_place(lon, half27) || y < 0 || x > width || y > height)
         return refuse(6);
     shift_at(x, y, &lat_shift, &lon_shift);
-    printf("ok83=%lld,%lld,%lld,%lld\n", 100 * lat + lat_shift.rounded, 100 * lon + lon_shift.rounded, lat_shift.sign, lon_shift.sign);
+    number north = 100 * lat + lat_shift.rounded, east = named(100 * lon + lon_shift.rounded, half83);
+    printf("ok83=%lld,%lld,%lld,%lld\n", north, east, lat_shift.sign, lon_shift.sign);
     return 1;
 }
 
@@ -94,7 +113,10 @@ static number hundredth(number v, number limit) {
 
 // Six rounds at most, and the point that they reach is the answer if its own answer is the figure.
 static int to27(number lat, number lon) {
-    number east = lon - 100 * west, north = lat - 100 * south;
+    if (!is_place(lon, half83))
+        return refuse(7);
+    // a figure may lie west of the west edge: the nearer way round
+    number east = named(lon - 100 * west, half83), north = lat - 100 * south;
     struct shift lat_shift, lon_shift;
     number x = hundredth(east, width), y = hundredth(north, height);
     for (int k = 0; k < 6; k++) {
@@ -108,7 +130,7 @@ static int to27(number lat, number lon) {
     shift_at(x, y, &lat_shift, &lon_shift);
     if (100 * x + lon_shift.rounded != east || 100 * y + lat_shift.rounded != north)
         return refuse(7);
-    printf("ok27=%lld,%lld\n", y + south, x + west);
+    printf("ok27=%lld,%lld\n", y + south, named(x + west, half27));
     return 1;
 }
 

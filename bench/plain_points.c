@@ -2,6 +2,26 @@
 // grid is trusted to pass the checks, every point to lie on the grid, and every NAD 83 figure to be the answer of a point.
 #include "points.h"
 
+// Longitudes are places on a circle: half a turn, in thousandths and in hundred-thousandths of an arc second.
+static const int64_t half27 = 648000000, half83 = 64800000000;
+
+// The name, from -half to half - 1, of the place at a number that is less than a turn past an end of that range.
+static inline int64_t named(int64_t number, int64_t half) {
+    if (number >= half)
+        return number - 2 * half;
+    if (number < -half)
+        return number + 2 * half;
+    return number;
+}
+
+// The distance eastward from one place to another.
+static inline int64_t eastward(int64_t from, int64_t to, int64_t half) {
+    int64_t distance = to - from;
+    if (distance < 0)
+        distance += 2 * half;
+    return distance;
+}
+
 // A shift, rounded, and the sign of the rounded shift minus the exact fraction.
 struct shift {
     int64_t rounded, sign;
@@ -42,9 +62,9 @@ void plain_to83(const struct grid *grid, const int64_t *restrict points, int64_t
     int64_t south = grid->header[0], west = grid->header[1];
     for (size_t k = 0; k < n; k++) {
         struct shift lat, lon;
-        shift_at(grid, points[2 * k + 1] - west, points[2 * k] - south, &lat, &lon);
+        shift_at(grid, eastward(west, points[2 * k + 1], half27), points[2 * k] - south, &lat, &lon);
         answers[4 * k] = 100 * points[2 * k] + lat.rounded;
-        answers[4 * k + 1] = 100 * points[2 * k + 1] + lon.rounded;
+        answers[4 * k + 1] = named(100 * points[2 * k + 1] + lon.rounded, half83);
         answers[4 * k + 2] = lat.sign;
         answers[4 * k + 3] = lon.sign;
     }
@@ -61,7 +81,8 @@ void plain_to27(const struct grid *grid, const int64_t *restrict points, int64_t
     int64_t south = grid->header[0], west = grid->header[1];
     int64_t height = (grid->header[4] - 1) * grid->header[2], width = (grid->header[5] - 1) * grid->header[3];
     for (size_t k = 0; k < n; k++) {
-        int64_t north = points[2 * k] - 100 * south, east = points[2 * k + 1] - 100 * west;
+        // a figure may lie west of the west edge: the nearer way round
+        int64_t north = points[2 * k] - 100 * south, east = named(points[2 * k + 1] - 100 * west, half83);
         int64_t y = hundredth(north, height), x = hundredth(east, width);
         for (int round = 0; round < 6; round++) {
             struct shift lat, lon;
@@ -73,6 +94,6 @@ void plain_to27(const struct grid *grid, const int64_t *restrict points, int64_t
             x = next_x;
         }
         answers[4 * k] = y + south;
-        answers[4 * k + 1] = x + west;
+        answers[4 * k + 1] = named(x + west, half27);
     }
 }

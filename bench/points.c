@@ -58,8 +58,8 @@ static void random_shifts(int64_t *shifts, int64_t rows, int64_t cols) {
             shifts[r * cols + c] = base + north * r + east * c + north2 * r * r + mixed * r * c + east2 * c * c;
 }
 
-static void random_grid(struct grid *grid, int64_t rows, int64_t cols) {
-    int64_t header[6] = {117900000, -298800000, 450000, 450000, rows, cols};
+static void random_grid(struct grid *grid, int64_t west, int64_t rows, int64_t cols) {
+    int64_t header[6] = {117900000, west, 450000, 450000, rows, cols};
     memcpy(grid->header, header, sizeof header);
     grid->nodes = (size_t)(rows * cols);
     random_shifts(grid->lat, rows, cols);
@@ -89,7 +89,9 @@ static void spread_points(const struct grid *grid) {
     const int64_t *h = grid->header, margin = 2000;
     for (size_t k = 0; k < MOST; k++) {
         points27[2 * k] = random_between(h[0] + margin, h[0] + (h[4] - 1) * h[2] - margin);
-        points27[2 * k + 1] = random_between(h[1] + margin, h[1] + (h[5] - 1) * h[3] - margin);
+        int64_t lon = random_between(h[1] + margin, h[1] + (h[5] - 1) * h[3] - margin);
+        // the number of a place past the 180th meridian
+        points27[2 * k + 1] = lon < 648000000 ? lon : lon - 1296000000;
     }
 }
 
@@ -153,8 +155,8 @@ static int answers_are_points27(void) {
     return memcmp(back, points27, sizeof back) == 0;
 }
 
-// Converts all points once with every converter, and compares. Answers PROJ's difference.
-static double agree(enum way way, const struct grid *grid) {
+// Converts all points once with Dagglehurst and with plain C, and compares.
+static void agree_with_plain(enum way way, const struct grid *grid) {
     convert(OURS, way, grid, 0, MOST);
     convert(PLAIN, way, grid, 0, MOST);
     for (size_t k = 0; k < MOST; k++)
@@ -165,6 +167,11 @@ static double agree(enum way way, const struct grid *grid) {
         fail("Dagglehurst and plain C differ");
     if (way == TO27 && !answers_are_points27())
         fail("the way back does not lead to the points");
+}
+
+// The same with every converter. Answers PROJ's difference.
+static double agree(enum way way, const struct grid *grid) {
+    agree_with_plain(way, grid);
     if (!PROJ_INSTALLED)
         return 0;
     restore_proj_input(way, MOST);
@@ -190,6 +197,17 @@ static void prepare(const char *name, const struct grid *grid, const char *folde
     if (PROJ_INSTALLED)
         printf(", PROJ within %.4f (to83) and %.4f (to27)", there, back);
     printf("\n");
+}
+
+// A grid across the 180th meridian is compared with plain C alone, and not timed.
+static void agree_across(void) {
+    static struct grid grid;
+    random_grid(&grid, 641000000, 32, 64);
+    spread_points(&grid);
+    agree_with_plain(TO83, &grid);
+    coordinates(points83);
+    agree_with_plain(TO27, &grid);
+    printf("random grid across the 180th meridian, %zu nodes. Answers and signs: plain C the same\n", grid.nodes);
 }
 
 // ---- Times ----
@@ -261,9 +279,9 @@ int main(int argc, char **argv) {
     memset(ways[TO83], DAGGLEHURST_TO83, MOST);
     memset(ways[TO27], DAGGLEHURST_TO27, MOST);
     read_grid(&grids[0], argv[1]);
-    random_grid(&grids[1], 2, 2);
-    random_grid(&grids[2], 16, 16);
-    random_grid(&grids[3], 32, 64);
+    random_grid(&grids[1], -298800000, 2, 2);
+    random_grid(&grids[2], -298800000, 16, 16);
+    random_grid(&grids[3], -298800000, 32, 64);
 
     printf("PROJ: %s. Processor time, best of %d repetitions, the converters taking turns. All buffers were written before.\n",
            proj_version(), REPETITIONS);
@@ -276,6 +294,8 @@ int main(int argc, char **argv) {
         print_rows(&grids[g], speed);
         proj_close();
     }
+
+    agree_across();
 
     printf("\n%d points on %zu nodes:\n", MOST, grids[3].nodes);
     print_target(PLAIN, "plain C", 0.7, 0.7, speed);

@@ -5,6 +5,10 @@
  * FIGURES. Latitude is positive north, longitude positive EAST. A NAD 27 figure counts thousandths of an arc second, a NAD 83
  * figure hundred-thousandths.
  *
+ * LONGITUDES are places on a circle, and each place has one number: in NAD 27 from -648,000,000, which is the 180th meridian, to
+ * 647,999,999, in NAD 83 from -64,800,000,000 to 64,799,999,999. A number outside its range names no place. It is never reduced by a
+ * turn, but refused: a west edge with 2, a point's longitude in NAD 27 with 6, a figure's in NAD 83 with 7.
+ *
  * SIGNS. The shift at a point is an exact fraction; in a NAD 83 figure it is rounded to a whole number. On the way to NAD 83 the
  * answer has a sign for the latitude and one for the longitude: the sign of the rounded shift minus the exact fraction.
  *   -1  the rounded shift is below the exact one: the figure lies south or west of the exact place
@@ -15,7 +19,8 @@
  * A GRID is a header and two slices of shifts (NAD 83 minus NAD 27, in hundred-thousandths of an arc second).
  *   header    six numbers: south, west, dlat, dlon, rows, cols; edges and spacings in thousandths of an arc second. Numbers behind
  *             the sixth are not looked at. A number that a shorter slice does not have counts as 0, so a header of fewer than six
- *             numbers always breaks a rule: it has no columns.
+ *             numbers always breaks a rule: it has no columns. The east edge lies (cols - 1) x dlon east of the west edge, on
+ *             the circle: a grid may cross the 180th meridian.
  *   lat, lon  the latitude and the longitude shift of each node, from the southernmost row north, each row from west to east.
  *             Shifts behind the first rows x cols are not looked at.
  *
@@ -42,12 +47,13 @@ extern "C" {
 enum {
     DAGGLEHURST_FORM = 1,      /* a line of a grid's text is missing, extra or not of its form: its line, from 1.
                                 * In the refusals of dagglehurst_convert: a way that does not exist */
-    DAGGLEHURST_RULE = 2,      /* a rule of the header is broken: the first such rule, 1 to 9 */
+    DAGGLEHURST_RULE = 2,      /* a rule of the header is broken: the first such rule, 1 to 8 */
     DAGGLEHURST_RANGE = 3,     /* a shift is beyond 6,000,000 either way: the lowest such node, from 0 */
     DAGGLEHURST_STEEP = 4,     /* a node is too steep to its east or north neighbour: the lowest such node */
     DAGGLEHURST_NODE_ROOM = 5, /* lat or lon has fewer than rows x cols elements: rows x cols */
-    DAGGLEHURST_OFF_GRID = 6,  /* the NAD 27 point is off the grid: 0 */
-    DAGGLEHURST_NO_POINT = 7,  /* no point of the grid has this NAD 83 figure as its answer: 0 */
+    DAGGLEHURST_OFF_GRID = 6,  /* the NAD 27 point is off the grid, or its longitude is outside the range: 0 */
+    DAGGLEHURST_NO_POINT = 7,  /* no point of the grid has this NAD 83 figure as its answer, or its longitude is outside the
+                                * range: 0 */
     DAGGLEHURST_ROOM = 8,      /* a slice is too short: the elements needed. The slice is the room for a text (its elements are
                                 * bytes), the answer, points, answers or refusals, the header that is read into, or the line or
                                 * the state of a list in pieces */
@@ -97,7 +103,8 @@ uint64_t dagglehurst_check(const int64_t *header, size_t header_length, const in
 
 /* Converts the NAD 27 point `north`, `east`. Writes four numbers to the front of `answer`: its NAD 83 figure, latitude and longitude,
  * then the latitude's sign and the longitude's. The figure is 100 times the point plus the shift there, an exact fraction rounded to
- * the nearest whole number, a tie to the even one. Answers 1.
+ * the nearest whole number, a tie to the even one. Where that carries the longitude past an end of its range, which is across the
+ * 180th meridian, a turn of 129,600,000,000 is added or taken off. Answers 1.
  * Refuses 2, 5, 3, 4, 14, 6, then 8 (place 4) where `answer` has fewer than four elements. */
 uint64_t dagglehurst_to83(const int64_t *header, size_t header_length, const int64_t *lat, size_t lat_length, const int64_t *lon,
                           size_t lon_length, int64_t north, int64_t east, int64_t *answer, size_t answer_length);

@@ -375,7 +375,9 @@ static const struct {
     {{INT64_MIN, 0, 1000, 1000, 2, 2}, 1}, {{INT64_MAX, 0, 1000, 1000, 2, 2}, 1},
     {{-323940001, 0, 1000, 1000, 2, 2}, 1}, {{323940001, 0, 1000, 1000, 2, 2}, 1},
     {{0, INT64_MIN, 1000, 1000, 2, 2}, 2}, {{0, INT64_MAX, 1000, 1000, 2, 2}, 2},
-    {{0, -647940001, 1000, 1000, 2, 2}, 2}, {{0, 647940001, 1000, 1000, 2, 2}, 2},
+    {{0, -648000001, 1000, 1000, 2, 2}, 2}, {{0, 648000000, 1000, 1000, 2, 2}, 2},
+    /* a turn off, where 0 is meant */
+    {{0, 1296000000, 1000, 1000, 2, 2}, 2}, {{0, -1296000000, 1000, 1000, 2, 2}, 2},
     {{0, 0, 0, 1000, 2, 2}, 3}, {{0, 0, -450000, 1000, 2, 2}, 3}, {{0, 0, 999, 1000, 2, 2}, 3},
     {{0, 0, 900001, 1000, 2, 2}, 3}, {{0, 0, INT64_MIN, 1000, 2, 2}, 3}, {{0, 0, INT64_MAX, 1000, 2, 2}, 3},
     {{0, 0, 1000, 0, 2, 2}, 4}, {{0, 0, 1000, -450000, 2, 2}, 4}, {{0, 0, 1000, 999, 2, 2}, 4},
@@ -390,11 +392,10 @@ static const struct {
     {{0, 0, 1000, 1000, (INT64_C(1) << 62) + 1, 4}, 5}, {{0, 0, 1000, 1000, 2, INT64_MAX}, 6},
     {{0, 0, 1000, 1000, 33, 64}, 7}, {{0, 0, 1000, 1000, 256, 9}, 7}, {{0, 0, 1000, 1000, 256, 256}, 7},
     {{323939001, 0, 1000, 1000, 2, 2}, 8}, {{323940000, 0, 900000, 1000, 256, 8}, 8},
-    {{0, 647939001, 1000, 1000, 2, 2}, 9}, {{0, 647940000, 1000, 900000, 8, 256}, 9},
     /* the first broken rule is the one that is told */
     {{INT64_MIN, INT64_MIN, INT64_MIN, INT64_MIN, INT64_MIN, INT64_MIN}, 1},
     {{0, INT64_MAX, INT64_MAX, INT64_MAX, INT64_MAX, INT64_MAX}, 2},
-    {{323939001, 647939001, 1000, 1000, 2, 2}, 8},
+    {{323939001, 648000000, 1000, 1000, 2, 2}, 2}, {{323939001, 647999999, 1000, 1000, 2, 2}, 8},
 };
 
 static void test_headers(void) {
@@ -406,6 +407,28 @@ static void test_headers(void) {
             call.slices[HEADER] = (struct slice)READS(headers[k].header, DAGGLEHURST_HEADER);
             expect_refusal(call, what, 2, headers[k].rule);
         }
+}
+
+/* West edges at the ends of their range, and such that the grid reaches the 180th meridian, crosses it, or stays short of it: no rule
+ * limits the east edge. */
+static void test_west_edges(void) {
+    static const int64_t edges[] = {-648000000, -647999999, 647549999, 647550000, 647550001, 647775000, 647940001, 647999999};
+    for (size_t k = 0; k < COUNT(edges); k++) {
+        const int64_t moved[DAGGLEHURST_HEADER] = {117900000, edges[k], 450000, 450000, 2, 2};
+        char written[TEXT + 1], what[64];
+        const char *at = strstr(text, "-298800000");
+        int length = snprintf(written, sizeof written, "%.*s%lld%s", (int)(at - text), text, (long long)edges[k], at + 10);
+        snprintf(what, sizeof what, "west edge %lld", (long long)edges[k]);
+
+        struct call check = undamaged[CHECK], write = undamaged[WRITE], read = undamaged[READ];
+        check.slices[HEADER] = write.slices[HEADER] = (struct slice)READS(moved, DAGGLEHURST_HEADER);
+        expect_answer(&check, what, NODES);
+        write.slices[OUTPUT] = (struct slice)WRITES(written, (size_t)length);
+        expect_answer(&write, what, (uint64_t)length);
+        read.slices[HEADER] = (struct slice)WRITES(moved, DAGGLEHURST_HEADER);
+        read.slices[INPUT] = (struct slice)READS(written, (size_t)length);
+        expect_answer(&read, what, NODES);
+    }
 }
 
 /* ---- Nodes beyond the range, nodes that are too steep, and a cell that is twisted too far ---- */
@@ -454,35 +477,121 @@ static const struct {
     {TO83, INT64_MIN, INT64_MIN}, {TO83, INT64_MAX, INT64_MAX}, {TO83, INT64_MIN, -298581930}, {TO83, 118210250, INT64_MIN},
     {TO83, INT64_MAX, -298581930}, {TO83, 118210250, INT64_MAX}, {TO83, 117899999, -298581930}, {TO83, 118350001, -298581930},
     {TO83, 118210250, -298800001}, {TO83, 118210250, -298349999}, {TO83, 11821079228, -29858147963}, {TO83, 0, 0},
+    {TO83, 118210250, -648000001}, {TO83, 118210250, -648000000}, {TO83, 118210250, 647999999}, {TO83, 118210250, 648000000},
+    /* the mast's longitude a turn off, which names no place */
+    {TO83, 118210250, 997418070}, {TO83, 118210250, -1594581930},
     {TO27, INT64_MIN, INT64_MIN}, {TO27, INT64_MAX, INT64_MAX}, {TO27, INT64_MIN, -29858147963}, {TO27, 11821079228, INT64_MIN},
     {TO27, INT64_MAX, -29858147963}, {TO27, 11821079228, INT64_MAX}, {TO27, 11821079229, -29858147963},
     {TO27, 11821079228, -29858147964}, {TO27, 11790052999, -29879958000}, {TO27, 11835057001, -29834951000},
     {TO27, 118210250, -298581930}, {TO27, 0, 0},
+    {TO27, 11821079228, -64800000001}, {TO27, 11821079228, -64800000000}, {TO27, 11821079228, 64799999999},
+    {TO27, 11821079228, 64800000000}, {TO27, 11821079228, 99741852037}, {TO27, 11821079228, -159458147963},
 };
 
-/* Each is refused whether or not there is room for an answer, alone and as the only request of a batch. */
+/* A call on the bulletin's cell with another header and other longitude shifts. */
+static struct call on_grid(enum function function, const int64_t *of, const int64_t *shifts) {
+    struct call call = undamaged[function];
+    call.slices[HEADER] = (struct slice)READS(of, DAGGLEHURST_HEADER);
+    call.slices[LON] = (struct slice)READS(shifts, NODES);
+    return call;
+}
+
+/* A point or figure that is refused whether or not there is room for an answer, alone and as the only request of a batch. */
+static void expect_lost(const int64_t *of, const int64_t *shifts, enum function function, int64_t north, int64_t east) {
+    int to83 = function == TO83;
+    uint8_t refusal = to83 ? 6 : 7, way = to83 ? DAGGLEHURST_TO83 : DAGGLEHURST_TO27;
+    int64_t point[2] = {north, east};
+    char what[64];
+    snprintf(what, sizeof what, "point %lld,%lld", (long long)north, (long long)east);
+
+    struct call one = on_grid(function, of, shifts);
+    one.north = north;
+    one.east = east;
+    expect_refusal(one, what, refusal, 0);
+    one.slices[OUTPUT].length = 0;
+    expect_refusal(one, what, refusal, 0);
+
+    struct call all = on_grid(CONVERT, of, shifts);
+    all.slices[WAYS] = (struct slice)READS(&way, 1);
+    all.slices[INPUT] = (struct slice)READS(point, 2);
+    all.slices[OUTPUT].after = NULL;
+    all.slices[REFUSALS] = (struct slice)WRITES(&refusal, 1);
+    expect_answer(&all, what, 1);
+}
+
 static void test_points(void) {
-    for (size_t k = 0; k < COUNT(lost_points); k++) {
-        int to83 = lost_points[k].function == TO83;
-        uint8_t refusal = to83 ? 6 : 7, way = to83 ? DAGGLEHURST_TO83 : DAGGLEHURST_TO27;
-        int64_t point[2] = {lost_points[k].north, lost_points[k].east};
-        char what[64];
-        snprintf(what, sizeof what, "point %zu", k);
+    for (size_t k = 0; k < COUNT(lost_points); k++)
+        expect_lost(header, lon, lost_points[k].function, lost_points[k].north, lost_points[k].east);
+}
 
-        struct call one = undamaged[lost_points[k].function];
-        one.north = point[0];
-        one.east = point[1];
-        expect_refusal(one, what, refusal, 0);
-        one.slices[OUTPUT].length = 0;
-        expect_refusal(one, what, refusal, 0);
+/* ---- The bulletin's cell moved so that the 180th meridian halves it ---- */
 
-        struct call all = undamaged[CONVERT];
-        all.slices[WAYS] = (struct slice)READS(&way, 1);
-        all.slices[INPUT] = (struct slice)READS(point, 2);
-        all.slices[OUTPUT].after = NULL;
-        all.slices[REFUSALS] = (struct slice)WRITES(&refusal, 1);
-        expect_answer(&all, what, 1);
+static const int64_t turn27 = 1296000000, turn83 = INT64_C(129600000000);
+static const int64_t halved[DAGGLEHURST_HEADER] = {117900000, 647775000, 450000, 450000, 2, 2};
+
+/* Other longitude shifts, that carry the places beside the meridian to it, past it or just short of it. */
+static const int64_t east100[NODES] = {100, 100, 100, 100}, west100[NODES] = {-100, -100, -100, -100}, east99[NODES] = {99, 99, 99, 99};
+
+static const struct {
+    const int64_t *shifts;
+    int64_t point[2], answer[4];
+} at_meridian[] = {
+    /* the corners, the mast, the middle, which is on the meridian, and a thousandth west of it */
+    {lon, {117900000, 647775000}, {11790053000, 64777542000, 0, 0}},
+    {lon, {118350000, 647775000}, {11835051000, 64777541000, 0, 0}},
+    {lon, {117900000, -647775000}, {11790057000, -64777451000, 0, 0}},
+    {lon, {118350000, -647775000}, {11835057000, -64777451000, 0, 0}},
+    {lon, {118210250, 647993070}, {11821079228, 64799352037, 1, 1}},
+    {lon, {118125000, -648000000}, {11812554500, -64799954750, 0, 0}},
+    {lon, {118125000, 647999999}, {11812554500, -64799954850, 1, 1}},
+    {east100, {118125000, 647999998}, {11812554500, 64799999900, 1, 0}},
+    {east100, {118125000, 647999999}, {11812554500, -64800000000, 1, 0}},
+    {west100, {118125000, -647999999}, {11812554500, -64800000000, -1, 0}},
+    {west100, {118125000, -648000000}, {11812554500, 64799999900, 0, 0}},
+    {east99, {118125000, 647999999}, {11812554500, 64799999999, 1, 0}},
+};
+
+/* Longitudes just off the edges, just past the ends of the range, and the least and the greatest number. */
+static const int64_t lost27[] = {647774999, -647774999, 648000000, -648000001, 648225000, INT64_MIN, INT64_MAX};
+static const int64_t lost83[] = {64777541999, 64777542001, 64800000000, -64800000001, -64800000000, 64799999999, INT64_MIN, INT64_MAX};
+
+/* There and back, each alone and both in a batch, where the way back leaves the signs' places as they were. */
+static void expect_both_ways(const int64_t *shifts, const int64_t *point, const int64_t *answer) {
+    static const uint8_t both[2] = {DAGGLEHURST_TO83, DAGGLEHURST_TO27}, answered[2] = {0, 0};
+    static const int64_t held[9] = {-10, -11, -12, -13, -20, -21, -22, -23, -30};
+    const int64_t asked[4] = {point[0], point[1], answer[0], answer[1]};
+    const int64_t found[8] = {answer[0], answer[1], answer[2], answer[3], point[0], point[1], -22, -23};
+
+    struct call there = on_grid(TO83, halved, shifts), back = on_grid(TO27, halved, shifts), all = on_grid(CONVERT, halved, shifts);
+    there.north = point[0];
+    there.east = point[1];
+    there.slices[OUTPUT] = (struct slice)WRITES(answer, 4);
+    expect_answer(&there, "at the meridian", 1);
+    back.north = answer[0];
+    back.east = answer[1];
+    back.slices[OUTPUT] = (struct slice)WRITES(point, 2);
+    expect_answer(&back, "at the meridian", 1);
+    all.slices[WAYS] = (struct slice)READS(both, 2);
+    all.slices[INPUT] = (struct slice)READS(asked, 4);
+    all.slices[OUTPUT] = (struct slice)WRITES_OVER(held, found, 8);
+    all.slices[REFUSALS] = (struct slice)WRITES(answered, 2);
+    expect_answer(&all, "at the meridian", 2);
+}
+
+static void test_meridian(void) {
+    for (size_t k = 0; k < COUNT(at_meridian); k++) {
+        const int64_t *shifts = at_meridian[k].shifts, *point = at_meridian[k].point, *answer = at_meridian[k].answer;
+        expect_both_ways(shifts, point, answer);
+        /* a turn off, a number names no place */
+        expect_lost(halved, shifts, TO83, point[0], point[1] + turn27);
+        expect_lost(halved, shifts, TO83, point[0], point[1] - turn27);
+        expect_lost(halved, shifts, TO27, answer[0], answer[1] + turn83);
+        expect_lost(halved, shifts, TO27, answer[0], answer[1] - turn83);
     }
+    for (size_t k = 0; k < COUNT(lost27); k++)
+        expect_lost(halved, lon, TO83, 117900000, lost27[k]);
+    for (size_t k = 0; k < COUNT(lost83); k++)
+        expect_lost(halved, lon, TO27, 11790053000, lost83[k]);
 }
 
 /* ---- Texts ---- */
@@ -499,7 +608,8 @@ static const struct {
     {"south=117900000", "south=", 1, 3}, {"south=117900000", "south=-", 1, 3}, {"south=117900000", "south=117900000000", 1, 3},
     {"south=117900000", "south=99999999999", 2, 1}, {"south=117900000", "south=323939999", 2, 8},
     {"west=-298800000", "west=--298800000", 1, 4}, {"west=-298800000", "west=-99999999999", 2, 2},
-    {"west=-298800000", "west=647939999", 2, 9}, {"dlat=450000", "dlon=450000", 1, 5}, {"dlat=450000", "dlat=0", 2, 3},
+    {"west=-298800000", "west=648000000", 2, 2}, {"west=-298800000", "west=-648000001", 2, 2}, {"west=-298800000", "west=-0", 1, 4},
+    {"dlat=450000", "dlon=450000", 1, 5}, {"dlat=450000", "dlat=0", 2, 3},
     {"dlat=450000", "dlat=900001", 2, 3}, {"dlon=450000", "dlon=-450000", 2, 4}, {"dlon=450000", "dlon=450000 ", 1, 6},
     {"rows=2", "rows=0", 2, 5}, {"rows=2", "rows=99999999999", 2, 5}, {"cols=2", "cols=1", 2, 6}, {"cols=2", "cols=99999999999", 2, 6},
     {"rows=2\ncols=2", "rows=256\ncols=256", 2, 7}, {"rows=2\ncols=2", "rows=2", 1, 8},
@@ -627,8 +737,10 @@ int main(void) {
     test_no_signs_back();
     test_lists();
     test_headers();
+    test_west_edges();
     test_nodes();
     test_points();
+    test_meridian();
     test_edits();
     test_every_byte();
     test_order();

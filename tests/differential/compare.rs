@@ -155,6 +155,7 @@ impl Bench {
         self.reply(call, &case.verdict, got, || case.account());
         self.untouched(call, case.unchanged(), || case.account());
         self.mark_twists(case);
+        self.mark_edges(&case.unjudged(), &case.verdict);
     }
 
     /// Notes how far the cells are twisted, where the checks before 4 have passed.
@@ -249,6 +250,11 @@ impl Bench {
         self.reply(call, &expected.as_ref().map(|_| 1).map_err(|&refusal| refusal), got, account);
         self.written(call, &answer, &expected.unwrap_or_default(), account);
         self.untouched(call, case.unchanged(), account);
+        match (case.grid(), way) {
+            (Ok(grid), TO83) => self.mark_there(&grid, point, &converted),
+            (Ok(grid), _) => self.mark_back(&grid, point, &converted),
+            (Err(_), _) => (),
+        }
         converted
     }
 

@@ -46,7 +46,7 @@ const KNOWN: [Known; CALLS] = [
 ];
 
 /// Everything else that a run has to reach.
-const MARKS: [&str; 129] = [
+const MARKS: [&str; 162] = [
     "point: tie toward zero, positive latitude shift",
     "point: tie toward zero, negative latitude shift",
     "point: tie toward zero, positive longitude shift",
@@ -176,11 +176,44 @@ const MARKS: [&str; 129] = [
     "grid: a twist one beyond its limit",
     "grid: a twist in the last column and row alone",
     "grid: too steep behind a twisted cell",
+    "grid: west edge at -648,000,000",
+    "grid: west edge at 647,999,999",
+    "grid: west edge at -648,000,001, refused",
+    "grid: west edge at 648,000,000, refused",
+    "meridian: a grid across it",
+    "meridian: an east edge one short of it",
+    "meridian: an east edge on it",
+    "meridian: an east edge one past it",
+    "meridian: a point west of it, on a grid across it",
+    "meridian: a point east of it, on a grid across it",
+    "meridian: a point on it",
+    "meridian: a point one short of it",
+    "meridian: an answer on it",
+    "meridian: an answer one short of it",
+    "meridian: an answer carried across it eastward",
+    "meridian: an answer carried across it westward",
+    "meridian: an answer carried across it eastward, from a grid beside it",
+    "meridian: an answer carried across it westward, from a grid beside it",
+    "meridian: back to a point west of it, on a grid across it",
+    "meridian: back to a point east of it, on a grid across it",
+    "meridian: back to a point on it",
+    "meridian: back from an answer carried across it eastward",
+    "meridian: back from an answer carried across it westward",
+    "meridian: the same grid and points elsewhere on the circle",
+    "meridian: the example's list",
+    "no longitude: -648,000,001",
+    "no longitude: 648,000,000",
+    "no longitude: a turn east of a point of the grid",
+    "no longitude: a turn west of a point of the grid",
+    "no longitude: -64,800,000,001",
+    "no longitude: 64,800,000,000",
+    "no longitude: a turn east of an answer",
+    "no longitude: a turn west of an answer",
 ];
 
 pub struct Coverage {
     refusals: [[u64; LARGEST + 1]; CALLS],
-    rules: [[u64; 10]; CALLS],
+    rules: [[u64; 9]; CALLS],
     answers: [u64; CALLS],
     nulls: [[u64; 7]; CALLS],
     marks: BTreeMap<&'static str, u64>,
@@ -189,7 +222,8 @@ pub struct Coverage {
 impl Coverage {
     pub fn new() -> Coverage {
         let marks = MARKS.iter().map(|&mark| (mark, 0)).collect();
-        Coverage { refusals: [[0; LARGEST + 1]; CALLS], rules: [[0; 10]; CALLS], answers: [0; CALLS], nulls: [[0; 7]; CALLS], marks }
+        let (refusals, rules) = ([[0; LARGEST + 1]; CALLS], [[0; 9]; CALLS]);
+        Coverage { refusals, rules, answers: [0; CALLS], nulls: [[0; 7]; CALLS], marks }
     }
 
     pub fn answered(&mut self, call: Call) {
@@ -231,7 +265,7 @@ impl Coverage {
             };
             need(self.answers[k], "an answer".to_string());
             known.refusals.iter().for_each(|&number| need(self.refusals[k][number], format!("refusal {number}")));
-            let rules = if known.refusals.contains(&2) { 1..=9 } else { 1..=0 };
+            let rules = if known.refusals.contains(&2) { 1..=8 } else { 1..=0 };
             rules.for_each(|rule| need(self.rules[k][rule], format!("header rule {rule}")));
             known.slices.iter().enumerate().for_each(|(s, name)| need(self.nulls[k][s], format!("{name} lent as NULL")));
         }

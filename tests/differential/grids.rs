@@ -1,10 +1,14 @@
 //! Grids: those that pass, and those broken on purpose.
 
+use crate::circle::CIRCLE27;
 use crate::random::Random;
 
 pub const SHIFT_LIMIT: i64 = 6_000_000;
 pub const LAT_LIMIT: i64 = 323_940_000;
-pub const LON_LIMIT: i64 = 647_940_000;
+/// The 180th meridian, counted on from the longitudes west of it. Its name is the first of the circle.
+pub const MERIDIAN: i64 = 648_000_000;
+/// The farthest that a shift carries a longitude, in thousandths.
+const REACH: i64 = SHIFT_LIMIT / 100;
 
 /// A grid owned by the test, as it will be lent.
 #[derive(Clone)]
@@ -73,25 +77,54 @@ fn spacing(random: &mut Random) -> i64 {
     }
 }
 
-/// A low edge such that the grid fits: at one limit, at the other, around zero, or anywhere.
-fn low_edge(random: &mut Random, limit: i64, extent: i64) -> i64 {
-    let highest = limit - extent;
+/// A south edge such that the grid fits: at one limit, at the other, around zero, or anywhere.
+fn south_edge(random: &mut Random, height: i64) -> i64 {
+    let highest = LAT_LIMIT - height;
     match random.below(5) {
-        0 => -limit,
+        0 => -LAT_LIMIT,
         1 => highest,
-        2 => (-extent / 2).clamp(-limit, highest),
-        3 => random.between(-1_000, 1_000).clamp(-limit, highest),
-        _ => random.between(-limit, highest),
+        2 => (-height / 2).clamp(-LAT_LIMIT, highest),
+        3 => random.between(-1_000, 1_000).clamp(-LAT_LIMIT, highest),
+        _ => random.between(-LAT_LIMIT, highest),
     }
 }
 
+/// A west edge: for every third grid at the 180th meridian, for the others around zero, or anywhere.
+fn west_edge(random: &mut Random, dlon: i64, cols: i64) -> i64 {
+    match random.below(6) {
+        0 | 1 => at_meridian(random, dlon, cols),
+        2 => (1 - cols) * dlon / 2,
+        3 => random.between(-1_000, 1_000),
+        _ => random.between(CIRCLE27.first, CIRCLE27.last),
+    }
+}
+
+/// A west edge whose grid crosses the 180th meridian, touches it, or lies so near that a shift can carry an answer across.
+fn at_meridian(random: &mut Random, dlon: i64, cols: i64) -> i64 {
+    let width = (cols - 1) * dlon;
+    let beside = random.pick(&[1, 2, 50, 500, REACH]);
+    CIRCLE27.name(match random.below(8) {
+        0 | 1 => MERIDIAN - random.between(1, width - 1),
+        // A column of nodes on it, also the first or the last one.
+        2 => MERIDIAN - random.between(0, cols - 1) * dlon,
+        3 => MERIDIAN + random.pick(&[0, 0, 1]),
+        4 => MERIDIAN - 1,
+        5 => MERIDIAN - width + random.pick(&[-1, 0, 1]),
+        6 => MERIDIAN - width - random.between(1, beside),
+        _ => MERIDIAN + random.between(0, beside),
+    })
+}
+
 /// A header that keeps every rule, for the given shape.
-pub fn header(random: &mut Random, [rows, cols]: [i64; 2]) -> Vec<i64> {
-    // A long side leaves room for a smaller spacing only.
-    let dlat = spacing(random).min(2 * LAT_LIMIT / (rows - 1));
-    let dlon = spacing(random).min(2 * LON_LIMIT / (cols - 1));
-    let south = low_edge(random, LAT_LIMIT, (rows - 1) * dlat);
-    let west = low_edge(random, LON_LIMIT, (cols - 1) * dlon);
+pub fn header(random: &mut Random, shape: [i64; 2]) -> Vec<i64> {
+    let spacings = [spacing(random), spacing(random)];
+    spaced_header(random, shape, spacings)
+}
+
+/// The same with given spacings. Every shape has room for the largest ones.
+pub fn spaced_header(random: &mut Random, [rows, cols]: [i64; 2], [dlat, dlon]: [i64; 2]) -> Vec<i64> {
+    let south = south_edge(random, (rows - 1) * dlat);
+    let west = west_edge(random, dlon, cols);
     vec![south, west, dlat, dlon, rows, cols]
 }
 
@@ -183,14 +216,15 @@ pub fn paper_q() -> Plain {
     Plain { header: vec![0, 0, 1_000, 1_000, 2, 2], lat: vec![0, 1, 0, 1], lon: vec![0, -1, 0, -1] }
 }
 
-/// Headers with one number at an edge of its rule, one off it, or absurd; and edges that meet the limits of rules 8 and 9.
+/// Headers with one number at an edge of its rule, one off it, or absurd; north edges that meet the limit of rule 8; and east
+/// edges at the 180th meridian, which no rule limits.
 pub fn edge_headers() -> Vec<Vec<i64>> {
     let base = [0, 0, 1_000, 1_000, 3, 4];
     let edges: [&[i64]; 6] = [
         &[-LAT_LIMIT, LAT_LIMIT - 2_000, LAT_LIMIT],
-        &[-LON_LIMIT, LON_LIMIT - 3_000, LON_LIMIT],
+        &[CIRCLE27.first, MERIDIAN - 3_000, CIRCLE27.last],
         &[1_000, 900_000, LAT_LIMIT / 2],
-        &[1_000, 900_000, LON_LIMIT / 3],
+        &[1_000, 900_000, MERIDIAN / 3],
         &[2, 256, 512, 2_048],
         &[2, 256, 512, 2_048],
     ];
@@ -225,8 +259,8 @@ fn shapes_near_the_limit() -> impl Iterator<Item = Vec<i64>> {
 pub fn odd_header(random: &mut Random) -> Vec<i64> {
     let shape = small_shape(random);
     let mut odd = header(random, shape);
-    let limits = [LAT_LIMIT, LON_LIMIT, 900_000, 900_000, 256, 256];
-    let lows = [-LAT_LIMIT, -LON_LIMIT, 1_000, 1_000, 2, 2];
+    let limits = [LAT_LIMIT, CIRCLE27.last, 900_000, 900_000, 256, 256];
+    let lows = [-LAT_LIMIT, CIRCLE27.first, 1_000, 1_000, 2, 2];
     for _ in 0..=random.below(3) {
         let place = random.below(6);
         odd[place] = match random.below(4) {
@@ -236,9 +270,9 @@ pub fn odd_header(random: &mut Random) -> Vec<i64> {
             _ => odd[place].saturating_add(random.between(-1, 1)),
         };
     }
-    // Often move the grid so that its far edge is at the limit or one beyond it.
+    // Often move the grid so that its north edge is at the limit, or its east edge at the 180th meridian, or one off.
     if random.once_in(2) {
-        let (place, limit) = random.pick(&[(0, LAT_LIMIT), (1, LON_LIMIT)]);
+        let (place, limit) = random.pick(&[(0, LAT_LIMIT), (1, MERIDIAN)]);
         let extent = (odd[4 + place].wrapping_sub(1)).wrapping_mul(odd[2 + place]);
         odd[place] = limit.wrapping_sub(extent).wrapping_add(random.between(-1, 1));
     }

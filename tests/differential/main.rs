@@ -4,6 +4,7 @@
 //! `differential short` runs fixed cases. `differential long [SEED] [SECONDS]` goes on with others.
 
 mod broken;
+mod circle;
 mod compare;
 mod coverage;
 mod exhaustive;
@@ -12,6 +13,8 @@ mod lent;
 mod library;
 mod lists;
 mod memory;
+mod meridian;
+mod meridian_marks;
 mod model;
 mod model_text;
 mod paper;

@@ -2,6 +2,7 @@
 //!
 //! Everything is counted in i128, so that no product or sum of 64-bit numbers can overflow here.
 
+use crate::circle::{CIRCLE27, CIRCLE83};
 use std::cmp::Ordering;
 
 /// The number of a refusal and the place it reports.
@@ -42,7 +43,6 @@ pub const TO27: u8 = 2;
 
 pub const LARGEST_SHIFT: i128 = 6_000_000;
 const LAT_LIMIT: i128 = 323_940_000;
-const LON_LIMIT: i128 = 647_940_000;
 
 /// A header and nodes as a grid, not yet judged.
 #[derive(Clone, Copy)]
@@ -90,20 +90,19 @@ impl<'a> Grid<'a> {
         Grid { south: at(0), west: at(1), dlat: at(2), dlon: at(3), rows: at(4), cols: at(5), lat, lon }
     }
 
-    /// The first header rule that is broken, from 1 to 9.
+    /// The first header rule that is broken, from 1 to 8.
     pub fn broken_rule(&self) -> Option<usize> {
-        // Rules 7 to 9 come into question only after the first six hold, so the products below are small then; for absurd numbers
-        // they stay within i128, as a product of two 64-bit numbers does.
+        // Rules 7 and 8 come into question only after the first six hold, so the products below are small then; for absurd
+        // numbers they stay within i128, as a product of two 64-bit numbers does.
         let kept = [
             self.south.abs() <= LAT_LIMIT,
-            self.west.abs() <= LON_LIMIT,
+            CIRCLE27.has(self.west),
             (1_000..=900_000).contains(&self.dlat),
             (1_000..=900_000).contains(&self.dlon),
             (2..=256).contains(&self.rows),
             (2..=256).contains(&self.cols),
             self.rows * self.cols <= 2_048,
             self.north() <= LAT_LIMIT,
-            self.east() <= LON_LIMIT,
         ];
         kept.iter().position(|&holds| !holds).map(|index| index + 1)
     }
@@ -116,8 +115,14 @@ impl<'a> Grid<'a> {
         self.south + (self.rows - 1) * self.dlat
     }
 
-    pub fn east(&self) -> i128 {
-        self.west + (self.cols - 1) * self.dlon
+    /// The distance eastward from the west edge to the east edge.
+    pub fn width(&self) -> i128 {
+        (self.cols - 1) * self.dlon
+    }
+
+    /// The distance eastward from the west edge to a longitude.
+    pub fn distance(&self, lon: i128) -> i128 {
+        CIRCLE27.eastward(self.west, lon)
     }
 
     /// The lowest node that is too steep to its east or north neighbour.
@@ -152,10 +157,11 @@ impl<'a> Grid<'a> {
         self.twists().find(|(_, twists)| twists.iter().any(too_far)).map(|(node, _)| node)
     }
 
-    /// The shift of one component at a point on the grid, as numerator and denominator (USGS Bulletin 1875-B, equation 2).
-    fn fraction(&self, shifts: &[i64], lat: i128, lon: i128) -> (i128, i128) {
-        let (row, col) = (cell(lat - self.south, self.dlat), cell(lon - self.west, self.dlon));
-        let a = lon - self.west - col * self.dlon;
+    /// The shift of one component at a point on the grid, as numerator and denominator (USGS Bulletin 1875-B, equation 2). The
+    /// point lies `x` east of the west edge.
+    fn fraction(&self, shifts: &[i64], lat: i128, x: i128) -> (i128, i128) {
+        let (row, col) = (cell(lat - self.south, self.dlat), cell(x, self.dlon));
+        let a = x - col * self.dlon;
         let c = lat - self.south - row * self.dlat;
         let (b, d) = (self.dlon - a, self.dlat - c);
         let first = (row * self.cols + col) as usize;
@@ -165,39 +171,46 @@ impl<'a> Grid<'a> {
         (sum, (a + b) * (c + d))
     }
 
-    pub fn lat_fraction(&self, lat: i128, lon: i128) -> (i128, i128) {
-        self.fraction(self.lat, lat, lon)
+    pub fn lat_fraction(&self, lat: i128, x: i128) -> (i128, i128) {
+        self.fraction(self.lat, lat, x)
     }
 
-    pub fn lon_fraction(&self, lat: i128, lon: i128) -> (i128, i128) {
-        self.fraction(self.lon, lat, lon)
+    pub fn lon_fraction(&self, lat: i128, x: i128) -> (i128, i128) {
+        self.fraction(self.lon, lat, x)
     }
 
-    fn lat_figure(&self, lat: i128, lon: i128) -> i128 {
-        100 * lat + nearest(self.lat_fraction(lat, lon))
+    fn lat_figure(&self, lat: i128, x: i128) -> i128 {
+        100 * lat + nearest(self.lat_fraction(lat, x))
     }
 
-    fn lon_figure(&self, lat: i128, lon: i128) -> i128 {
-        100 * lon + nearest(self.lon_fraction(lat, lon))
+    /// How far east of the west edge the answer lies, in hundred-thousandths; below zero where it lies west of it.
+    fn east_of_edge(&self, lat: i128, x: i128) -> i128 {
+        100 * x + nearest(self.lon_fraction(lat, x))
     }
 
-    pub fn holds(&self, lat: i128, lon: i128) -> bool {
-        self.south <= lat && lat <= self.north() && self.west <= lon && lon <= self.east()
+    pub fn holds_lat(&self, lat: i128) -> bool {
+        self.south <= lat && lat <= self.north()
+    }
+
+    pub fn holds_lon(&self, lon: i128) -> bool {
+        CIRCLE27.has(lon) && self.distance(lon) <= self.width()
     }
 
     /// The coordinates of the NAD 83 figure of a NAD 27 point.
     pub fn to83(&self, point: [i64; 2]) -> Reply<[i64; 2]> {
         let [lat, lon] = point.map(i128::from);
-        if !self.holds(lat, lon) {
+        if !self.holds_lat(lat) || !self.holds_lon(lon) {
             return refuse(6, 0);
         }
-        Ok([self.lat_figure(lat, lon) as i64, self.lon_figure(lat, lon) as i64])
+        let x = self.distance(lon);
+        let counted = 100 * lon + nearest(self.lon_fraction(lat, x));
+        Ok([self.lat_figure(lat, x) as i64, CIRCLE83.name(counted)])
     }
 
     /// For the latitude and the longitude shift at a point on the grid, the sign of the rounded shift minus the exact fraction.
     fn signs(&self, point: [i64; 2]) -> [i64; 2] {
-        let [lat, lon] = point.map(i128::from);
-        [self.lat_fraction(lat, lon), self.lon_fraction(lat, lon)].map(sign)
+        let (lat, x) = (point[0].into(), self.distance(point[1].into()));
+        [self.lat_fraction(lat, x), self.lon_fraction(lat, x)].map(sign)
     }
 
     /// One request. A way that does not exist is refused 1.
@@ -209,33 +222,50 @@ impl<'a> Grid<'a> {
         }
     }
 
-    /// The NAD 27 point whose answer is the NAD 83 figure `figure`, by two searches, one within the other.
+    /// The NAD 27 point whose answer is the NAD 83 figure `figure`, by two searches, one within the other. Both count a longitude
+    /// as a distance x east of the west edge, so that the 180th meridian is nothing special in them.
     ///
     /// Why no point is missed. A shift is at most 6,000,000, so both coordinates of the point lie in the windows below. The
     /// steepness rule allows a change of 100/16 = 6.25 in the shift for one thousandth along either axis. Rounding two shifts
     /// changes their difference by at most 1.
-    /// - At one longitude, a step north adds at least 100 - 6.25 - 1 to the latitude figure, which therefore rises. So `row_at`
-    ///   finds the only latitude of that longitude that can have the latitude figure.
+    /// - At one x, a step north adds at least 100 - 6.25 - 1 to the latitude figure, which therefore rises. So `row_at` finds the
+    ///   only latitude of that x that can have the latitude figure.
     /// - A step north and a step east or west together add at least 100 - 12.5 - 1 to the latitude figure. So `row_at` of two
-    ///   neighbouring longitudes differs by at most 1.
-    /// - A step east along `row_at` thus adds at least 100 - 12.5 - 1 to the longitude figure, which therefore rises as well, and
-    ///   the outer search finds the only longitude that can have it.
+    ///   neighbours differs by at most 1.
+    /// - A step east along `row_at` thus carries the answer at least 100 - 12.5 - 1 farther east, and the outer search finds the
+    ///   only x that can have it.
     ///
     /// What the searches find is compared with the figure in the end, so nothing is answered wrongly.
     pub fn to27(&self, figure: [i64; 2]) -> Reply<[i64; 2]> {
         let [lat_figure, lon_figure] = figure.map(i128::from);
+        if !CIRCLE83.has(lon_figure) {
+            return refuse(7, 0);
+        }
+        let east = self.nearer_way(lon_figure);
         let (low_lat, high_lat) = window(lat_figure, self.south, self.north());
-        let (low_lon, high_lon) = window(lon_figure, self.west, self.east());
-        if low_lat > high_lat || low_lon > high_lon {
+        let (low, high) = window(east, 0, self.width());
+        if low_lat > high_lat || low > high {
             return refuse(7, 0);
         }
-        let row_at = |lon| first(low_lat, high_lat, |lat| self.lat_figure(lat, lon) >= lat_figure).min(high_lat);
-        let lon = first(low_lon, high_lon, |lon| self.lon_figure(row_at(lon), lon) >= lon_figure).min(high_lon);
-        let lat = row_at(lon);
-        if self.lat_figure(lat, lon) != lat_figure || self.lon_figure(lat, lon) != lon_figure {
+        let row_at = |x| first(low_lat, high_lat, |lat| self.lat_figure(lat, x) >= lat_figure).min(high_lat);
+        let x = first(low, high, |x| self.east_of_edge(row_at(x), x) >= east).min(high);
+        let point = [row_at(x) as i64, CIRCLE27.name(self.west + x)];
+        if self.to83(point) != Ok(figure) {
             return refuse(7, 0);
         }
-        Ok([lat as i64, lon as i64])
+        Ok(point)
+    }
+
+    /// How far east of the west edge a figure lies, below zero where it is nearer the other way round. An answer lies no farther
+    /// west of the edge than the largest shift and, as 255 x 900,000 thousandths are less than a fifth of a turn, less than half
+    /// a turn east.
+    fn nearer_way(&self, lon_figure: i128) -> i128 {
+        let (turn, east) = (CIRCLE83.turn().into(), CIRCLE83.eastward(100 * self.west, lon_figure));
+        if 2 * east < turn {
+            east
+        } else {
+            east - turn
+        }
     }
 }
 

@@ -1,5 +1,6 @@
 //! Points and figures over one grid, each converted alone and all of them together.
 
+use crate::circle::{Circle, CIRCLE27, CIRCLE83};
 use crate::compare::{Bench, Case};
 use crate::coverage::Call;
 use crate::grids::{self, Plain};
@@ -30,14 +31,37 @@ fn coordinate(random: &mut Random, low: i64, spacing: i64, nodes: i64) -> i64 {
     }
 }
 
+/// Mostly the name of the place that was counted to. Now and then the number that was counted, or one a turn off, or one at an
+/// end of the range. A number far from every place stays as it is.
+fn longitude(random: &mut Random, circle: &Circle, counted: i64) -> i64 {
+    let far = counted.unsigned_abs() > circle.turn().unsigned_abs();
+    let name = if far { counted } else { circle.name(counted) };
+    match random.below(24) {
+        0 => counted,
+        1 => name.saturating_add(circle.turn()),
+        2 => name.saturating_sub(circle.turn()),
+        3 => {
+            let end = random.pick(&[circle.first, circle.last]);
+            random.near(end)
+        }
+        _ => name,
+    }
+}
+
 pub fn point(random: &mut Random, header: &[i64]) -> [i64; 2] {
     let lat = coordinate(random, header[0], header[2], header[4]);
     let lon = coordinate(random, header[1], header[3], header[5]);
-    [lat, lon]
+    [lat, longitude(random, &CIRCLE27, lon)]
 }
 
-/// A figure: the answer of a point, one close to it, one near the edges, one far off, one absurd.
 pub fn figure(random: &mut Random, grid: &Grid, header: &[i64]) -> [i64; 2] {
+    let [lat, lon] = counted_figure(random, grid, header);
+    [lat, longitude(random, &CIRCLE83, lon)]
+}
+
+/// A figure: the answer of a point, one close to it, one near the edges, one far off, one absurd. Near an end of the range it may
+/// be past it.
+fn counted_figure(random: &mut Random, grid: &Grid, header: &[i64]) -> [i64; 2] {
     let point = point(random, header);
     let figure = grid.to83(point).unwrap_or(point.map(|part| part.saturating_mul(100)));
     match random.below(12) {
@@ -86,48 +110,70 @@ pub fn compare(bench: &mut Bench, random: &mut Random, plain: &Plain, count: usi
     around_answers(bench, random, &case, &numbers);
 }
 
-/// Takes back the answers of some points, and their eight neighbours one off, which are no answers.
+/// Takes back the answers of some points, and their eight neighbours one off, which are no answers. A neighbour past an end of
+/// the range is taken as it is counted and by its name.
 fn around_answers(bench: &mut Bench, random: &mut Random, case: &Case, points: &[i64]) {
     let Ok(grid) = case.grid() else { return };
     let chosen = 2 * random.below(points.len() / 2);
     let Ok([lat, lon]) = grid.to83([points[chosen], points[chosen + 1]]) else { return };
     let steps = [-1, 0, 1];
-    let around: Vec<i64> = steps.iter().flat_map(|a| steps.map(|b| [lat + a, lon + b])).flatten().collect();
-    bench.batch(case, Some(&[TO27; 9]), Some(&around), [Some(38), Some(10)]);
+    let around = steps.iter().flat_map(|a| steps.map(|b| [lat + a, lon + b]));
+    let figures: Vec<i64> = around.flat_map(counted_and_named).flatten().collect();
+    let count = figures.len() / 2;
+    bench.batch(case, Some(&vec![TO27; count]), Some(&figures), [Some(4 * count + 2), Some(count + 1)]);
     bench.coverage.mark("figure: one off an answer");
+}
+
+/// A figure as it is counted and, where its longitude is outside the range, the same place by its name.
+pub fn counted_and_named([lat, lon]: [i64; 2]) -> impl Iterator<Item = [i64; 2]> {
+    let outside = !CIRCLE83.has(lon);
+    std::iter::once([lat, lon]).chain(outside.then_some([lat, CIRCLE83.name(lon)]))
 }
 
 /// Notes where a point lies, whether its shifts are ties, and how they are rounded.
 pub fn mark_point(bench: &mut Bench, grid: &Grid, point: [i64; 2]) {
     let [lat, lon] = point.map(i128::from);
-    let (north, east) = (grid.north(), grid.east());
-    let inside = (grid.south <= lat && lat <= north, grid.west <= lon && lon <= east);
+    let inside = (grid.holds_lat(lat), grid.holds_lon(lon));
+    mark_off(bench, grid, point, inside);
+    if inside == (true, true) {
+        let x = grid.distance(lon);
+        mark_place(bench, grid, lat, x);
+        mark_tie(bench, LAT_TIES, grid.lat_fraction(lat, x));
+        mark_tie(bench, LON_TIES, grid.lon_fraction(lat, x));
+        mark_sign(bench, LAT_SIGNS, grid.lat_fraction(lat, x));
+        mark_sign(bench, LON_SIGNS, grid.lon_fraction(lat, x));
+    }
+}
+
+/// Notes a point off the grid. `inside` says whether its latitude and its longitude are on it.
+fn mark_off(bench: &mut Bench, grid: &Grid, point: [i64; 2], inside: (bool, bool)) {
+    let [lat, lon] = point.map(i128::from);
+    let (turn, place) = (i128::from(CIRCLE27.turn()), CIRCLE27.has(lon));
     let marks = &mut bench.coverage;
     marks.mark_if(lat.abs() > 1 << 40 || lon.abs() > 1 << 40, "point: absurd");
     marks.mark_if(lat == grid.south - 1 && inside.1, "point: one off the south edge");
-    marks.mark_if(lat == north + 1 && inside.1, "point: one off the north edge");
-    marks.mark_if(lon == grid.west - 1 && inside.0, "point: one off the west edge");
-    marks.mark_if(lon == east + 1 && inside.0, "point: one off the east edge");
-    if inside != (true, true) {
-        return;
-    }
-    let on_edge = (lat == grid.south || lat == north, lon == grid.west || lon == east);
-    let on_side = ((lat - grid.south) % grid.dlat == 0 && !on_edge.0, (lon - grid.west) % grid.dlon == 0 && !on_edge.1);
+    marks.mark_if(lat == grid.north() + 1 && inside.1, "point: one off the north edge");
+    marks.mark_if(place && grid.distance(lon) == turn - 1 && inside.0, "point: one off the west edge");
+    marks.mark_if(place && grid.distance(lon) == grid.width() + 1 && inside.0, "point: one off the east edge");
+}
+
+/// Notes where on the grid a point lies that is `x` east of the west edge.
+fn mark_place(bench: &mut Bench, grid: &Grid, lat: i128, x: i128) {
+    let (north, east) = (grid.north(), grid.width());
+    let on_edge = (lat == grid.south || lat == north, x == 0 || x == east);
+    let on_side = ((lat - grid.south) % grid.dlat == 0 && !on_edge.0, x % grid.dlon == 0 && !on_edge.1);
+    let marks = &mut bench.coverage;
     marks.mark_if(lat == grid.south, "point: south edge");
     marks.mark_if(lat == north, "point: north edge");
-    marks.mark_if(lon == grid.west, "point: west edge");
-    marks.mark_if(lon == east, "point: east edge");
+    marks.mark_if(x == 0, "point: west edge");
+    marks.mark_if(x == east, "point: east edge");
     marks.mark_if(on_edge == (true, true), "point: corner");
     marks.mark_if(on_side.0, "point: side shared by a south and a north cell");
     marks.mark_if(on_side.1, "point: side shared by a west and an east cell");
     marks.mark_if(on_side == (true, true), "point: inner node");
     let at_node = (on_edge.0 || on_side.0) && (on_edge.1 || on_side.1);
-    marks.mark_if(!at_node && is_exact(grid.lat_fraction(lat, lon)), "point: exact latitude shift between nodes");
-    marks.mark_if(!at_node && is_exact(grid.lon_fraction(lat, lon)), "point: exact longitude shift between nodes");
-    mark_tie(bench, LAT_TIES, grid.lat_fraction(lat, lon));
-    mark_tie(bench, LON_TIES, grid.lon_fraction(lat, lon));
-    mark_sign(bench, LAT_SIGNS, grid.lat_fraction(lat, lon));
-    mark_sign(bench, LON_SIGNS, grid.lon_fraction(lat, lon));
+    marks.mark_if(!at_node && is_exact(grid.lat_fraction(lat, x)), "point: exact latitude shift between nodes");
+    marks.mark_if(!at_node && is_exact(grid.lon_fraction(lat, x)), "point: exact longitude shift between nodes");
 }
 
 fn is_exact((numerator, denominator): (i128, i128)) -> bool {
@@ -187,7 +233,8 @@ fn mark_sign(bench: &mut Bench, names: Signs, fraction: (i128, i128)) {
 fn mark_back(bench: &mut Bench, grid: &Grid, point: Option<[i64; 2]>) {
     let Some([lat, lon]) = point.map(|point| point.map(i128::from)) else { return };
     let lat_edge = lat == grid.south || lat == grid.north();
-    let lon_edge = lon == grid.west || lon == grid.east();
+    let x = grid.distance(lon);
+    let lon_edge = x == 0 || x == grid.width();
     bench.coverage.mark_if(lat_edge || lon_edge, "figure: back to an edge");
     bench.coverage.mark_if(lat_edge && lon_edge, "figure: back to a corner");
 }

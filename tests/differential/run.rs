@@ -2,7 +2,7 @@
 
 use crate::compare::Bench;
 use crate::random::Random;
-use crate::{broken, exhaustive, grids, lists, memory, paper, pieces, points, signs, texts, ties};
+use crate::{broken, exhaustive, grids, lists, memory, meridian, paper, pieces, points, signs, texts, ties};
 use std::time::{Duration, Instant};
 
 /// The seed of the short run, and of a long one that is given no other.
@@ -38,6 +38,9 @@ fn fixed(bench: &mut Bench, random: &mut Random) {
     paper::too_steep(bench);
     ties::compare(bench);
     signs::compare(bench);
+    meridian::by_hand(bench);
+    meridian::compare(bench);
+    meridian::example(bench);
     broken::header_edges(bench, random);
     broken::each_node(bench, random);
     broken::range_before_steepness(bench, random);
@@ -66,6 +69,11 @@ fn pass(bench: &mut Bench, random: &mut Random) {
         let plain = exhaustive::tiny_grid(random, shape);
         exhaustive::compare(bench, random, &plain);
     }
+    for shape in [[2, 2], [2, 3]] {
+        let plain = exhaustive::tiny_grid_across(random, shape);
+        exhaustive::compare(bench, random, &plain);
+    }
+    meridian::moved(bench, random, 1_000);
     for _ in 0..5_000 {
         let shape = grids::small_shape(random);
         over_grid(bench, random, shape, 40);

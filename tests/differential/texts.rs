@@ -1,5 +1,6 @@
 //! Texts for the reader: written by the model, then damaged.
 
+use crate::circle::CIRCLE27;
 use crate::compare::{Bench, Case};
 use crate::grids::{self, Plain};
 use crate::model_text::text_of;
@@ -9,7 +10,7 @@ use crate::random::Random;
 const ALL: [Option<usize>; 3] = [Some(6), Some(2_048), Some(2_048)];
 
 /// Replacements for a number. Some are of the form and beyond every limit, the others are not of the form.
-const NUMBERS: [&str; 34] = [
+const NUMBERS: [&str; 38] = [
     "-0",
     "0",
     "00",
@@ -42,6 +43,10 @@ const NUMBERS: [&str; 34] = [
     "6000001",
     "-6000000",
     "-6000001",
+    "647999999",
+    "648000000",
+    "-648000000",
+    "-648000001",
     "1\0",
     "\u{661}",
 ];
@@ -197,17 +202,20 @@ fn another_number(random: &mut Random, line: &[u8]) -> Vec<u8> {
     let front = line.iter().rposition(|&byte| byte == b'=' || byte == b',').map_or(0, |place| place + 1);
     let number = match random.below(3) {
         0 => random.pick(&NUMBERS).to_string(),
-        1 => random.near(limit_for(line)).to_string(),
+        1 => {
+            let limit = limit_for(random, line);
+            random.near(limit).to_string()
+        }
         _ => random.between(-6_000_001, 6_000_001).to_string(),
     };
     [&line[..front], number.as_bytes(), b"\n"].concat()
 }
 
 /// A limit that may concern the line, chosen by its first letter.
-fn limit_for(line: &[u8]) -> i64 {
+fn limit_for(random: &mut Random, line: &[u8]) -> i64 {
     match line.first() {
         Some(b's') => grids::LAT_LIMIT,
-        Some(b'w') => -grids::LON_LIMIT,
+        Some(b'w') => random.pick(&[CIRCLE27.first, CIRCLE27.last]),
         Some(b'd') => 900_000,
         Some(b'r' | b'c') => 256,
         Some(b'n') => grids::SHIFT_LIMIT,

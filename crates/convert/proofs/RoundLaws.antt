@@ -29,7 +29,7 @@ module _ (g : Grid) (f : Point83) (e : Passes g) where
   outside : Place.Outside ≡ targetOf (g .header) f → (p : Point27) → coordinates83 g p ≡ answered f → ⊥
   outside o p u =
       let a = answer-is g p u in
-      target-inside (g .header) (answer g p) (answer-target ok p (a .1)) (o ∙ ap (targetOf (g .header)) (sym (a .2)))
+      target-inside (g .header) (answer g p) (ok .header) (answer-target ok p (a .1)) (o ∙ ap (targetOf (g .header)) (sym (a .2)))
 
   module _ {X Y : ℕ} (t : Target (g .header) f X Y) where
     only : (p : Point27) → coordinates83 g p ≡ answered f → candidate g X Y ≡ p

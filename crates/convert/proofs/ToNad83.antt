@@ -34,7 +34,7 @@ module _ (g : Grid) (p : Point27) (e : Passes g) where
     pub place-in : (x ≤ width (g .header)) × (y ≤ height (g .header))
     place-in = let l = local (ok .header) p (position .0) in (rw (position .1) (l .on-east), rw (position .2) (l .on-north))
 
-    pub on-within : Within 1000000000 (p .lat .0) × Within 1000000000 (p .lon .0)
+    pub on-within : Within 1000000000 (p .lat .0) × Within 648000000 (p .lon .0)
     on-within = point-within (ok .header) p (position .0)
 
     module _ {v : ExactShift} (i : v ≡ exactOf (shape (g .header)) (g .nodes) x y) where

@@ -3,3 +3,4 @@ pub mod Convert
 pub mod Rounds
 pub mod Batch
 pub mod Starred
+pub mod Meridian

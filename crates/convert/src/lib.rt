@@ -1,6 +1,7 @@
 // Points from NAD 27 to NAD 83 and back, over a grid.
 pub mod batch;
 mod cells;
+mod circle;
 mod interpolation;
 mod offsets;
 mod rounding;
@@ -91,7 +92,7 @@ fn forward<'a>(h: Header, lat: &'a [i64], lon: &'a [i64], p: Point27) -> Answer8
 
 // A point's answer, from the exact shift there.
 fn shift_point(p: Point27, e: ExactShift) -> Shifted
-    requires { ⌜ (Within 1000000000 (p .lat .0)) × (Within 1000000000 (p .lon .0)) × (ExactIn e) ⌝ }
+    requires { ⌜ (Within 1000000000 (p .lat .0)) × (Within 648000000 (p .lon .0)) × (ExactIn e) ⌝ }
     requires { ⌜ (Within maxShift (roundedShift e .lat)) × (Within maxShift (roundedShift e .lon)) ⌝ }
     ensures { λ r. ⌜ r ≡ shiftedBy p e ⌝ }
 {
@@ -102,16 +103,16 @@ fn shift_point(p: Point27, e: ExactShift) -> Shifted
     }
 }
 
-// 100 times the point plus the shift, for each coordinate.
+// 100 times the point plus the shift, for each coordinate, the longitude as a place on its circle.
 fn answer_of(p: Point27, s: Shift) -> Point83
-    requires { ⌜ (Within 1000000000 (p .lat .0)) × (Within 1000000000 (p .lon .0)) × (Within maxShift (s .lat)) × (Within maxShift (s .lon)) ⌝ }
+    requires { ⌜ (Within 1000000000 (p .lat .0)) × (Within 648000000 (p .lon .0)) × (Within maxShift (s .lat)) × (Within maxShift (s .lon)) ⌝ }
     ensures { λ r. ⌜ r ≡ answerOf p s ⌝ }
 {
     let lat = p.lat;
     let lon = p.lon;
     Point83::new(
         offsets::hundredfold(lat.0, s.lat),
-        offsets::hundredfold(lon.0, s.lon),
+        offsets::place83(lon.0, s.lon),
     )
 }
 

@@ -10,6 +10,15 @@ pub struct Nad27(pub i64);
 // A NAD 83 figure, in hundred-thousandths of an arc second.
 pub struct Nad83(pub i64);
 
+// A longitude is a place on a circle, each named once: by a number from -HALF_TURN to HALF_TURN - 1.
+impl Nad27 {
+    pub const HALF_TURN: usize = 648_000_000;
+}
+
+impl Nad83 {
+    pub const HALF_TURN: usize = 64_800_000_000;
+}
+
 // Latitude is positive north and longitude positive east, in both datums.
 pub struct Point27 {
     pub lat: Nad27,

@@ -15,7 +15,7 @@ use Rattle.laws.specs.Parts.{posPart, Within, ints, parts-disjoint}
 use Rattle.laws.specs.Bounds.{own-size, widen}
 use Rattle.laws.specs.Expr.{machine}
 use Rattle.laws.specs.Logic.{both, leZ-true, leZ-false, leZ-holds}
-use Rattle.grid.specs.Rules.{minus, between, lastNode, firstFalse, brokenRule, northEdge, eastEdge, shape, nodeCount, nodeCountOr0}
+use Rattle.grid.specs.Rules.{minus, between, lastNode, firstFalse, brokenRule, northEdge, shape, nodeCount, nodeCountOr0}
 use Rattle.grid.specs.Needs.{Extent}
 use Rattle.grid.specs.declared.Header.{Header}
 
@@ -90,14 +90,13 @@ bounded-by lo hi K f e s t = subst (Within K) (sym (toZ-ofZ f)) (between-within 
 
 pub record RulesHold (h : Header) : Type 0 where
   pub south : Between (minus 323940000) (h .south .0) (pos 323940000)
-  pub west : Between (minus 647940000) (h .west .0) (pos 647940000)
+  pub west : Between (minus 648000000) (h .west .0) (pos 647999999)
   pub dlat : Between (pos 1000) (h .dlat) (pos 900000)
   pub dlon : Between (pos 1000) (h .dlon) (pos 900000)
   pub rows : Between (pos 2) (h .rows) (pos 256)
   pub cols : Between (pos 2) (h .cols) (pos 256)
   pub nodes : (h .rows *ℤ h .cols) ≤ℤ pos 2048
   pub north : northEdge h ≤ℤ pos 323940000
-  pub east : eastEdge h ≤ℤ pos 647940000
 
 holds : {n : ℕ} {b : Bool} {l : List Bool} → First (suc n) (b ∷ l) 0 → (b ≡ true) × First (suc (suc n)) l 0
 unfolding firstFalse
@@ -115,7 +114,6 @@ rules-hold h e =
     let r₆ = holds (r₅ .1) in
     let r₇ = holds (r₆ .1) in
     let r₈ = holds (r₇ .1) in
-    let r₉ = holds (r₈ .1) in
     record {
       south = between-holds (r₁ .0);
       west = between-holds (r₂ .0);
@@ -125,7 +123,6 @@ rules-hold h e =
       cols = between-holds (r₆ .0);
       nodes = leZ-holds (r₇ .0);
       north = leZ-holds (r₈ .0);
-      east = leZ-holds (r₉ .0);
     }
 
 product : {m n : ℤ} {K : ℕ} → pos 2 ≤ℤ m → pos 2 ≤ℤ n → (m *ℤ n) ≤ℤ pos K → posPart m * posPart n ≤ K

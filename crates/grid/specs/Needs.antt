@@ -11,12 +11,10 @@ use Rattle.grid.specs.Nodes.{maxShift, node, outOfRange, steepAt, twiste
 use Rattle.grid.specs.declared.nodes.NodeCheck.{NodeCheck}
 use Rattle.grid.specs.declared.Shape.{Shape}
 
--- what rules 1 to 6 leave of the header's numbers
-pub record Sized (south west dlat dlon rows cols : ℤ) : Type 0 where
+-- what rules 1 to 6 leave of the numbers of rules 7 and 8
+pub record Sized (south dlat rows cols : ℤ) : Type 0 where
   pub of-south : Within 323940000 south
-  pub of-west : Within 647940000 west
   pub of-dlat : Within 900000 dlat
-  pub of-dlon : Within 900000 dlon
   pub of-rows : Within 256 rows
   pub of-cols : Within 256 cols
 

@@ -21,24 +21,20 @@ between lo x hi = leZ lo x && leZ x hi
 unfoldable pub lastNode : (from step n : ℤ) → ℤ
 lastNode from step n = from +ℤ (n -ℤ pos 1) *ℤ step
 
--- rules 7 to 9
-abbrev pub sizeRules : (south west dlat dlon rows cols : ℤ) → List Bool
-sizeRules south west dlat dlon rows cols =
-    leZ (rows *ℤ cols) (pos 2048)
-    ∷ leZ (lastNode south dlat rows) (pos 323940000)
-    ∷ leZ (lastNode west dlon cols) (pos 647940000)
-    ∷ []
+-- rules 7 and 8
+abbrev pub sizeRules : (south dlat rows cols : ℤ) → List Bool
+sizeRules south dlat rows cols = leZ (rows *ℤ cols) (pos 2048) ∷ leZ (lastNode south dlat rows) (pos 323940000) ∷ []
 
--- rules 1 to 6, and those
+-- rules 1 to 6, and those. Document 02, request 6: "rule 2 takes the new range, rule 9 goes"
 abbrev pub rules : (south west dlat dlon rows cols : ℤ) → List Bool
 rules south west dlat dlon rows cols =
     between (minus 323940000) south (pos 323940000)
-    ∷ between (minus 647940000) west (pos 647940000)
+    ∷ between (minus 648000000) west (pos 647999999)
     ∷ between (pos 1000) dlat (pos 900000)
     ∷ between (pos 1000) dlon (pos 900000)
     ∷ between (pos 2) rows (pos 256)
     ∷ between (pos 2) cols (pos 256)
-    ∷ sizeRules south west dlat dlon rows cols
+    ∷ sizeRules south dlat rows cols
 
 -- where the first `false` stands, counted from `n`, or 0
 unfoldable pub firstFalse : ℕ → List Bool → ℕ
@@ -50,12 +46,9 @@ firstFalse n (false ∷ l) = n
 unfoldable pub brokenRule : Header → ℕ
 brokenRule h = firstFalse 1 (rules (h .south .0) (h .west .0) (h .dlat) (h .dlon) (h .rows) (h .cols))
 
--- the north and the east edge
+-- the north edge
 abbrev pub northEdge : Header → ℤ
 northEdge h = lastNode (h .south .0) (h .dlat) (h .rows)
-
-abbrev pub eastEdge : Header → ℤ
-eastEdge h = lastNode (h .west .0) (h .dlon) (h .cols)
 
 -- the header's sizes, as naturals
 abbrev pub shape : Header → Shape

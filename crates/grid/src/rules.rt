@@ -11,7 +11,9 @@ ghost use Rattle.grid.specs.Needs.{Sized};
 impl Header {
     pub const MAX_LATITUDE: i64 = 323_940_000;
 
-    pub const MAX_LONGITUDE: i64 = 647_940_000;
+    pub const MIN_LONGITUDE: i64 = -648_000_000;
+
+    pub const MAX_LONGITUDE: i64 = 647_999_999;
 
     pub const MIN_SPACING: i64 = 1_000;
 
@@ -67,7 +69,7 @@ fn first_broken(south: i64, west: i64, dlat: i64, dlon: i64, rows: i64, cols: i6
     if !between(-Header::MAX_LATITUDE, south, Header::MAX_LATITUDE) {
         return 1;
     }
-    if !between(-Header::MAX_LONGITUDE, west, Header::MAX_LONGITUDE) {
+    if !between(Header::MIN_LONGITUDE, west, Header::MAX_LONGITUDE) {
         return 2;
     }
     if !between(Header::MIN_SPACING, dlat, Header::MAX_SPACING) {
@@ -82,22 +84,19 @@ fn first_broken(south: i64, west: i64, dlat: i64, dlon: i64, rows: i64, cols: i6
     if !between(Header::MIN_COLS, cols, Header::MAX_COLS) {
         return 6;
     }
-    first_broken_size(south, west, dlat, dlon, rows, cols)
+    first_broken_size(south, dlat, rows, cols)
 }
 
-// Rules 7 to 9, whose products and sums are formed only of numbers that rules 1 to 6 have bounded.
-fn first_broken_size(south: i64, west: i64, dlat: i64, dlon: i64, rows: i64, cols: i64) -> usize
-    requires { ⌜ Sized south west dlat dlon rows cols ⌝ }
-    ensures { λ r. ⌜ r ≡ firstFalse 7 (sizeRules south west dlat dlon rows cols) ⌝ }
+// Rules 7 and 8, whose products and sums are formed only of numbers that rules 1 to 6 have bounded.
+fn first_broken_size(south: i64, dlat: i64, rows: i64, cols: i64) -> usize
+    requires { ⌜ Sized south dlat rows cols ⌝ }
+    ensures { λ r. ⌜ r ≡ firstFalse 7 (sizeRules south dlat rows cols) ⌝ }
 {
     if !at_most(rows * cols, Header::MAX_NODES) {
         return 7;
     }
     if !at_most(last_node(south, dlat, rows), Header::MAX_LATITUDE) {
         return 8;
-    }
-    if !at_most(last_node(west, dlon, cols), Header::MAX_LONGITUDE) {
-        return 9;
     }
     0
 }
@@ -119,7 +118,7 @@ fn at_most(x: i64, y: i64) -> bool
 
 // The coordinate of the last of `n` nodes that are `step` apart and start at `from`.
 fn last_node(from: i64, step: i64, n: i64) -> i64
-    requires { ⌜ (Within 647940000 from) × (Within 900000 step) × (Within 256 n) ⌝ }
+    requires { ⌜ (Within 323940000 from) × (Within 900000 step) × (Within 256 n) ⌝ }
     ensures { λ r. ⌜ (r ≡ lastNode from step n) × (Within 900000000 r) ⌝ }
 {
     from + (n - 1) * step

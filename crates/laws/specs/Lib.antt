@@ -6,3 +6,5 @@ pub mod Logic
 pub mod First
 pub mod Bytes
 pub mod Over
+pub mod Modulo
+pub mod Circle

@@ -71,6 +71,9 @@ ltZ-false {a} {b} h = is-false (ltZ a b) (λ t. clashℤ (ltZ-yes t) h)
 pub leZ-holds : {a b : ℤ} → leZ a b ≡ true → a ≤ℤ b
 leZ-holds e = leZ-yes (subst T (sym e) tt)
 
+pub ltZ-holds : {a b : ℤ} → ltZ a b ≡ true → a <ℤ b
+ltZ-holds e = ltZ-yes (subst T (sym e) tt)
+
 -- equality as a test
 unfoldable pub eqZ : ℤ → ℤ → Bool
 eqZ a b = leZ a b && leZ b a

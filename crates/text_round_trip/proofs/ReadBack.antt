@@ -109,7 +109,7 @@ module _ (g : Grid) (p : Passes g) where
       ∙ fixed-here 1 (bytes "from=NAD27\n") _ _
       ∙ fixed-here 2 (bytes "to=NAD83\n") _ _
       ∙ line-here 3 (bytes "south=") _ (g .header .south .0) _ (between-short 323940000 (k .south) (own-size (minus 323940000)) (own-size (pos 323940000)) (omega arith))
-      ∙ line-here 4 (bytes "west=") _ (g .header .west .0) _ (between-short 647940000 (k .west) (own-size (minus 647940000)) (own-size (pos 647940000)) (omega arith))
+      ∙ line-here 4 (bytes "west=") _ (g .header .west .0) _ (between-short 648000000 (k .west) (own-size (minus 648000000)) (widen (own-size (pos 647999999)) tt) (omega arith))
       ∙ line-here 5 (bytes "dlat=") _ (g .header .dlat) _ (between-short 900000 (k .dlat) (widen (own-size (pos 1000)) tt) (own-size (pos 900000)) (omega arith))
       ∙ line-here 6 (bytes "dlon=") _ (g .header .dlon) _ (between-short 900000 (k .dlon) (widen (own-size (pos 1000)) tt) (own-size (pos 900000)) (omega arith))
       ∙ line-here 7 (bytes "rows=") _ (g .header .rows) _ (between-short 256 (k .rows) (widen (own-size (pos 2)) tt) (own-size (pos 256)) (omega arith))

@@ -16,9 +16,6 @@ between-requires c κs = search needs
 returns : tie.Need-returns
 returns c = search (needs, tests) depth 20
 
-sub-between-2 : tie.Need-sub-between-2
-sub-between-2 c = search needs
-
 between-requires-2 : tie.Need-between-requires-2
 between-requires-2 c κs = search needs
 
@@ -56,9 +53,7 @@ first-broken-size-requires c κs =
     let a = s .args in
     record {
       of-south = bounded-by (minus 323940000) (pos 323940000) 323940000 (f .south) (search (needs, tests)) tt tt;
-      of-west = bounded-by (minus 647940000) (pos 647940000) 647940000 (f .west) (search (needs, tests)) tt tt;
       of-dlat = bounded-by (pos 1000) (pos 900000) 900000 (f .dlat) (search (needs, tests)) tt tt;
-      of-dlon = bounded-by (pos 1000) (pos 900000) 900000 (f .dlon) (search (needs, tests)) tt tt;
       of-rows = bounded-by (pos 2) (pos 256) 256 (f .rows) (search (needs, tests)) tt tt;
       of-cols = bounded-by (pos 2) (pos 256) 256 (f .cols) (search (needs, tests)) tt tt;
     }
@@ -68,8 +63,8 @@ returns-7 c =
     let s = c .before .before .before .before .before .before .before .before .before .before .before .before .before in
     let f = s .fits in
     let a = s .args in
-    let k : First 7 (sizeRules (a .south) (a .west) (a .dlat) (a .dlon) (a .rows) (a .cols)) (c .first-broken-size .result) =
-    record { is = c .first-broken-size .ensures ∙ (λ i. firstFalse 7 (sizeRules (toZ-ofZ (f .south) i) (toZ-ofZ (f .west) i) (toZ-ofZ (f .dlat) i) (toZ-ofZ (f .dlon) i) (toZ-ofZ (f .rows) i) (toZ-ofZ (f .cols) i))) } in
+    let k : First 7 (sizeRules (a .south) (a .dlat) (a .rows) (a .cols)) (c .first-broken-size .result) =
+    record { is = c .first-broken-size .ensures ∙ (λ i. firstFalse 7 (sizeRules (toZ-ofZ (f .south) i) (toZ-ofZ (f .dlat) i) (toZ-ofZ (f .rows) i) (toZ-ofZ (f .cols) i))) } in
     let t : First 1 (rules (a .south) (a .west) (a .dlat) (a .dlon) (a .rows) (a .cols)) (c .first-broken-size .result) =
     pass (search (needs, tests)) (pass (search (needs, tests)) (pass (search (needs, tests)) (pass (search (needs, tests)) (pass (search (needs, tests)) (pass (search (needs, tests)) k))))) in
     t .is
@@ -81,7 +76,6 @@ first-broken-spec =
     sub-between
     between-requires
     returns
-    sub-between-2
     between-requires-2
     returns-2
     between-requires-3
