@@ -1,12 +1,12 @@
--- Laws of a batch: how many numbers an answer has, the lengths of what is filled, and which slice is too short.
-use Prim.Native.Nat.{ℕ, zero, suc, _*_, _≤_, _<_}
+-- Laws of a batch: how many numbers an answer has, how they are stored, the lengths of what is filled, and which slice is too short.
+use Prim.Native.Nat.{ℕ, zero, suc, _+_, _*_, _≤_, _<_}
 use mathlib.Core.Path.{_≡_, refl, _∙_}
-use mathlib.Core.List.{List}
+use mathlib.Core.List.{List, [], _∷_}
 use native.Mathlib.Omega.{arith}
 use borrow.Author.Tests.{lt-ltb, le-ltb}
 use lib.IntN.{ℤ}
-use lib.ListN.{length, length-set}
-use lib.Seq.{length-sets}
+use lib.ListN.{length, set, length-set}
+use lib.Seq.{sets, length-sets}
 use Rattle.figures.specs.Outcome.{Outcome, answered, refused}
 use Rattle.convert.specs.Batch.{Answer, in83, in27, roomFor, numbersOf, refusalNumber, answersTo, refusalsTo}
 
@@ -45,3 +45,14 @@ module _ (n : ℕ) (points answers : List ℤ) (refusals : List ℕ) where
       pub all-fit : n ≤ length refusals → roomFor n points answers refusals ≡ answered n
       unfolding roomFor
       all-fit h = rw (le-ltb (length points) (2 * n) p, le-ltb (length answers) (4 * n) a, le-ltb (length refusals) n h)
+
+-- ---- numbers stored one by one
+
+pub two-set : (l : List ℤ) (at : ℕ) (a b : ℤ) → set (set l at a) (at + 1) b ≡ sets l at (a ∷ b ∷ [])
+two-set l at a b = let e : at + 1 ≡ suc at = omega arith in rw e
+
+pub four-set : (l : List ℤ) (at : ℕ) (a b c d : ℤ) → set (set (set (set l at a) (at + 1) b) (at + 2) c) (at + 3) d ≡ sets l at (a ∷ b ∷ c ∷ d ∷ [])
+four-set l at a b c d =
+    let e : at + 2 ≡ suc (suc at) = omega arith in
+    let f : at + 3 ≡ suc (suc (suc at)) = omega arith in
+    rw (e, f, two-set l at a b)

@@ -11,10 +11,8 @@ use figures::Point83;
 use figures::Refusal;
 use grid::Checked;
 use grid::Header;
-use slices::put_all;
-use slices::put_byte;
 ghost use mathlib.Core.Path.{_≡_};
-ghost use Prim.Native.Nat.{_+_, _*_, _^_, _≤_, _<_};
+ghost use Prim.Native.Nat.{_+_, _*_, _≤_, _<_};
 ghost use lib.ListN.{length};
 ghost use Rattle.figures.specs.Outcome.{mapAnswer};
 ghost use Rattle.grid.specs.Grid.{gridOf};
@@ -101,15 +99,14 @@ fn fill<'a>(
     refusals: &mut [u8],
 )
     requires { ⌜ Passes (gridOf h (now lat) (now lon)) ⌝ }
-    requires { ⌜ 2 * length (now ways) ≤ length (now points) ⌝ }
+    requires { ⌜ (2 * length (now ways) ≤ length (now points)) × (4 * length (now ways) ≤ length (now answers)) × (length (now ways) ≤ length (now refusals)) ⌝ }
     ensures answers { λ r. ⌜ now (answers .exit) ≡ answersTo (requestOutcome (gridOf h (now (lat .entry)) (now (lon .entry))) (now (ways .entry)) (now (points .entry))) (length (now (ways .entry))) (now (answers .entry)) ⌝ }
     ensures refusals { λ r. ⌜ now (refusals .exit) ≡ refusalsTo (requestOutcome (gridOf h (now (lat .entry)) (now (lon .entry))) (now (ways .entry)) (now (points .entry))) (length (now (ways .entry))) (now (refusals .entry)) ⌝ }
 {
     let mut k: usize = 0;
     while k < ways.len() {
         let converted = convert_one(h, lat, lon, ways[k], points[2 * k], points[2 * k + 1]);
-        let number = store(converted, k, answers);
-        put_byte(refusals, k, number);
+        refusals[k] = store(converted, k, answers);
         k += 1;
     }
 }
@@ -151,20 +148,31 @@ fn inverse_one<'a>(h: Header, lat: &'a [i64], lon: &'a [i64], f: Point83) -> Con
 
 // Stores the answer of request `k` in its places, and answers the number of its refusal, or 0.
 fn store(c: Converted, k: usize, answers: &mut [i64]) -> u8
-    requires { ⌜ 4 * k < 2 ^ 64 ⌝ }
+    requires { ⌜ 4 * k + 4 ≤ length (now answers) ⌝ }
     ensures number { λ r. ⌜ r ≡ refusalNumber (convertedOutcome c) ⌝ }
     ensures answers { λ r. ⌜ now (answers .exit) ≡ stored k (convertedOutcome c) (now (answers .entry)) ⌝ }
 {
     match c {
         Converted::Refused(why) => why.number() as u8,
         Converted::In83(a) => {
-            put_all(answers, 4 * k, &a.numbers());
+            let all = a.numbers();
+            let lat = all[0];
+            let lon = all[1];
+            let lat_sign = all[2];
+            let lon_sign = all[3];
+            answers[4 * k] = lat;
+            answers[4 * k + 1] = lon;
+            answers[4 * k + 2] = lat_sign;
+            answers[4 * k + 3] = lon_sign;
             0
         }
         Converted::In27(p) => {
             let lat = p.lat;
             let lon = p.lon;
-            put_all(answers, 4 * k, &[lat.0, lon.0]);
+            let y = lat.0;
+            let x = lon.0;
+            answers[4 * k] = y;
+            answers[4 * k + 1] = x;
             0
         }
     }

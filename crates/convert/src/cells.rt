@@ -12,7 +12,7 @@ ghost use Prim.Native.Nat.{_+_, _*_, _-_, _≤_, _<_};
 ghost use lib.ListN.{length};
 ghost use Rattle.bilinear.specs.Axis.{cellOf};
 ghost use Rattle.grid.specs.Grid.{nodeLists, gridOf};
-ghost use Rattle.grid.specs.Rules.{shape};
+ghost use Rattle.grid.specs.Rules.{brokenRule, shape};
 ghost use Rattle.grid.specs.Check.{Passes};
 ghost use Rattle.grid.specs.Needs.{Extent};
 ghost use Rattle.shift.specs.Shift.{cornersAt, cellAt, exactOf};
@@ -30,7 +30,7 @@ pub(crate) fn exact_at<'a>(
     requires { ⌜ (x ≤ width h) × (y ≤ height h) ⌝ }
     ensures { λ r. ⌜ (r ≡ exactOf (shape h) (nodeLists (now (lat .entry)) (now (lon .entry))) x y) × (ExactIn r) ⌝ }
 {
-    let shape = h.shape();
+    let shape = shape_of(h);
     let cell = cell_at(shape, x, y);
     let sw = cell.row * shape.cols + cell.col;
     let nw = sw + shape.cols;
@@ -39,6 +39,19 @@ pub(crate) fn exact_at<'a>(
         corners_at(lon, sw, nw),
         cell.distances,
     )
+}
+
+// The sizes of a header that breaks no rule: none is below 0.
+pub(crate) fn shape_of(h: Header) -> Shape
+    requires { ⌜ brokenRule h ≡ 0 ⌝ }
+    ensures { λ r. ⌜ r ≡ shape h ⌝ }
+{
+    Shape {
+        rows: h.rows as usize,
+        cols: h.cols as usize,
+        dlat: h.dlat as usize,
+        dlon: h.dlon as usize,
+    }
 }
 
 fn cell_at(shape: Shape, x: usize, y: usize) -> Cell

@@ -97,9 +97,10 @@ fn shift_point(p: Point27, e: ExactShift) -> Shifted
     ensures { λ r. ⌜ r ≡ shiftedBy p e ⌝ }
 {
     let shift = rounding::rounded_shift(e);
+    let signs = rounding::signs(e, shift);
     Shifted {
         point: answer_of(p, shift),
-        signs: rounding::signs(e, shift),
+        signs,
     }
 }
 

@@ -2,15 +2,16 @@
 -- stand at one place, and one of them is its name. `half` is half of the circle's length.
 use Prim.Native.Nat.{ℕ, _*_, _-_, _≤_, _<_}
 use native.Mathlib.Omega.{arith}
-use mathlib.Core.Path.{_≡_, sym, ap, _∙_}
-use mathlib.Core.Bool.{Bool, true, false, _&&_}
+use mathlib.Core.Path.{_≡_, refl, sym, ap, subst, _∙_}
+use mathlib.Core.Bool.{Bool, true, false, not, _&&_}
+use mathlib.Core.Logic.{_⊎_, inl, inr}
 use borrow.Author.Tests.{leb-true, le-leb}
-use lib.Dec.{leb}
+use lib.Dec.{T, leb}
 use lib.IntN.{ℤ, pos, negℤ, _+ℤ_, _-ℤ_, _*ℤ_}
-use lib.Signed.{leZ, ltZ, _≤ℤ_, _<ℤ_}
+use lib.Signed.{leZ, ltZ, _≤ℤ_, _<ℤ_, ltZ-no}
 use Rattle.laws.specs.Parts.{posPart, ints, parts-disjoint}
 use Rattle.laws.specs.Expr.{linear, lit, _⊕_, _⊖_, _⊛_, ⊝}
-use Rattle.laws.specs.Logic.{both, leZ-true, leZ-false, leZ-holds, ltZ-true, ltZ-holds}
+use Rattle.laws.specs.Logic.{both, and-false, leZ-true, leZ-false, leZ-holds, leZ-fails, ltZ-true, ltZ-false, ltZ-holds}
 use Rattle.laws.specs.Modulo.{modulo, modulo-small, modulo-below, divided, modulo-turned}
 
 -- a number from −half to half − 1 is a name, and "a number outside its range names no place"
@@ -43,15 +44,27 @@ pub names-it : {half : ℕ} {v : ℤ} → Named half v → names half v ≡ true
 unfolding names
 names-it n = rw (leZ-true (n .low), ltZ-true (n .high))
 
--- as the code tests it, from the low end on
+-- as the code tests it
 module _ (half : ℕ) (v : ℤ) where
-  pub below-range : v <ℤ negℤ (pos half) → false ≡ names half v
+  pub below-range : v <ℤ negℤ (pos half) → names half v ≡ false
   unfolding names
   below-range l = rw (leZ-false l)
+
+  pub above-range : pos half ≤ℤ v → names half v ≡ false
+  unfolding names
+  above-range l = rw (ltZ-false l) (and-false (leZ (negℤ (pos half)) v))
 
   pub from-range : negℤ (pos half) ≤ℤ v → ltZ v (pos half) ≡ names half v
   unfolding names
   from-range l = rw (leZ-true l)
+
+  pub out-of-range : names half v ≡ false → (v <ℤ negℤ (pos half)) ⊎ (pos half ≤ℤ v)
+  unfolding names
+  out-of-range e = go (leZ (negℤ (pos half)) v) refl e
+    where
+      go : (t : Bool) → leZ (negℤ (pos half)) v ≡ t → (t && ltZ v (pos half)) ≡ false → (v <ℤ negℤ (pos half)) ⊎ (pos half ≤ℤ v)
+      go true p e = inr (ltZ-no (subst (λ (t : Bool). T (not t)) (sym e) tt))
+      go false p e = inl (leZ-fails p)
 
 -- ---- numbers that stand at one place
 

@@ -1,12 +1,12 @@
 -- Tests joined by `and` and `or`, and the order of the integers as a test.
 use mathlib.Core.Path.{_≡_, refl, sym, subst, _∙_}
 use Prim.Native.Nat.{ℕ, _+_, _-_, _≤_, _<_}
-use mathlib.Core.Bool.{Bool, true, false, _&&_, _||_, cond}
+use mathlib.Core.Bool.{Bool, true, false, not, _&&_, _||_, cond}
 use mathlib.Core.Logic.{_⊎_, inl, inr}
 use borrow.Author.Tests.{ltb-true, ltb-false, lt-ltb}
 use lib.Dec.{T, ltb}
 use lib.IntN.{ℤ}
-use lib.Signed.{leZ, ltZ, _≤ℤ_, _<ℤ_, leZ-yes, ltZ-yes, clashℤ, ≤ℤ-refl}
+use lib.Signed.{leZ, ltZ, _≤ℤ_, _<ℤ_, leZ-yes, ltZ-yes, ltZ-no, clashℤ, ≤ℤ-refl}
 use native.Mathlib.Omega.{arith}
 use Rattle.laws.specs.Parts.{ints}
 
@@ -73,6 +73,13 @@ leZ-holds e = leZ-yes (subst T (sym e) tt)
 
 pub ltZ-holds : {a b : ℤ} → ltZ a b ≡ true → a <ℤ b
 ltZ-holds e = ltZ-yes (subst T (sym e) tt)
+
+pub leZ-fails : {a b : ℤ} → leZ a b ≡ false → b <ℤ a
+leZ-fails {a} {b} e = go (ltZ b a) refl
+  where
+    go : (t : Bool) → ltZ b a ≡ t → b <ℤ a
+    go true p = ltZ-holds p
+    go false p = let l : a ≤ℤ b = ltZ-no (subst (λ (t : Bool). T (not t)) (sym p) tt) in absurd (not-both (leZ-true l) e)
 
 -- equality as a test
 unfoldable pub eqZ : ℤ → ℤ → Bool

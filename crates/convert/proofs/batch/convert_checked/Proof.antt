@@ -32,7 +32,7 @@ returns-3 c =
     let a = c .before .before .before .before .before .args in rw (refusals-short (length (a .ways .now)) (a .points .now) (a .answers .now) (a .refusals .now) (c .before .before .if1 .left) (c .before .if2 .left) (c .if3 .taken)) (refl, (refl, refl))
 
 fill-requires : tie.Need-fill-requires
-fill-requires c κs = (search needs, c .before .before .before .before .if1 .left)
+fill-requires c κs = (search needs, (c .before .before .before .before .if1 .left, c .before .before .before .if2 .left, c .before .before .if3 .left))
 
 same-length : tie.Need-same-length
 same-length c = search needs

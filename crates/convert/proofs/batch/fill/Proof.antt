@@ -14,7 +14,7 @@ use Rattle.convert.proofs.batch.fill.Tie as tie
 abbrev Inv-loop : tie.InvT-loop
 Inv-loop h lat lon ways points answers₀ refusals₀ k₀ answers refusals k =
     (k ≤ length ways)
-    × (2 * length ways ≤ length points)
+    × ((2 * length ways ≤ length points) × (4 * length ways ≤ length answers₀) × (length ways ≤ length refusals₀))
     × (answers ≡ answersTo (requestOutcome (gridOf h lat lon) ways points) k answers₀)
     × (refusals ≡ refusalsTo (requestOutcome (gridOf h lat lon) ways points) k refusals₀)
 
@@ -35,7 +35,7 @@ mul-convert-one-2 : tie.Need-mul-convert-one-2 Inv-loop μ-loop
 mul-convert-one-2 c = search needs
 
 shared-slice-copy-out-convert-one : tie.Need-shared-slice-copy-out-convert-one Inv-loop μ-loop
-shared-slice-copy-out-convert-one c = omega (arith, c .before .before .loop .inv .1)
+shared-slice-copy-out-convert-one c = omega (arith, c .before .before .loop .inv .1 .0)
 
 mul-convert-one-3 : tie.Need-mul-convert-one-3 Inv-loop μ-loop
 mul-convert-one-3 c = search needs
@@ -47,16 +47,24 @@ mul-convert-one-4 : tie.Need-mul-convert-one-4 Inv-loop μ-loop
 mul-convert-one-4 c = search needs
 
 shared-slice-copy-out-convert-one-2 : tie.Need-shared-slice-copy-out-convert-one-2 Inv-loop μ-loop
-shared-slice-copy-out-convert-one-2 c = omega (arith, c .before .before .before .loop .inv .1)
+shared-slice-copy-out-convert-one-2 c = omega (arith, c .before .before .before .loop .inv .1 .0)
 
 convert-one-requires : tie.Need-convert-one-requires Inv-loop μ-loop
 convert-one-requires c κs = search needs
 
 store-requires : tie.Need-store-requires Inv-loop μ-loop
-store-requires c κs = search needs
+store-requires c κs =
+    let a = c .before .before .before .before .before .before .before .before .before .args in
+    let l = c .before .before .before .before .before .before .loop in
+    let e : length (l .answers) ≡ length (a .answers .now) = ap length (l .inv .2) ∙ length-answersTo _ (l .k) (a .answers .now) in
+    omega (arith, e, l .inv .1 .1)
 
-put-byte-requires : tie.Need-put-byte-requires Inv-loop μ-loop
-put-byte-requires c κs = search needs
+slice-write-refusals : tie.Need-slice-write-refusals Inv-loop μ-loop
+slice-write-refusals c =
+    let a = c .before .before .before .before .before .before .before .before .before .before .before .args in
+    let l = c .before .before .before .before .before .before .before .before .loop in
+    let e : length (l .refusals) ≡ length (a .refusals .now) = ap length (l .inv .3) ∙ length-refusalsTo _ (l .k) (a .refusals .now) in
+    omega (arith, e, l .inv .1 .2)
 
 add-k : tie.Need-add-k Inv-loop μ-loop
 add-k c = search needs
@@ -67,16 +75,17 @@ loop-less c = omega arith
 loop-again : tie.Need-loop-again Inv-loop μ-loop
 unfolding answersTo refusalsTo
 loop-again c =
-    let a = c .before .before .before .before .before .before .before .before .before .before .before .before .before .before .before .args in
-    let l = c .before .before .before .before .before .before .before .before .before .before .before .before .loop in
-    let y = element (c .before .before .before .before .before .before .before .before .before .convert-one-arg .given) in
-    let x = element (c .before .before .before .before .before .before .before .before .convert-one-arg2 .given) in
-    let o = c .before .before .before .before .before .before .before .convert-one .ensures ∙ (λ i. converted (gridOf (a .h) (a .lat .now) (a .lon .now)) (getD (a .ways .now) (l .k) 0) (y i) (x i)) in
-    let t = c .before .before .before .before .before .store .ensures in (
+    let r = c .before .before .before in
+    let a = r .before .before .before .before .before .before .before .before .args in
+    let l = r .before .before .before .before .before .loop in
+    let y = element (r .before .before .convert-one-arg .given) in
+    let x = element (r .before .convert-one-arg2 .given) in
+    let o = r .convert-one .ensures ∙ (λ i. converted (gridOf (a .h) (a .lat .now) (a .lon .now)) (getD (a .ways .now) (l .k) 0) (y i) (x i)) in
+    let t = c .before .store .ensures in (
       omega arith,
       l .inv .1,
       rw (add-one (l .k)) (t .1 ∙ (λ i. stored (l .k) (o i) (l .inv .2 i))),
-      rw (add-one (l .k)) (c .before .before .put-byte .ensures ∙ (λ i. set (l .inv .3 i) (l .k) ((t .0 ∙ ap refusalNumber o) i))),
+      rw (add-one (l .k)) (λ i. set (l .inv .3 i) (l .k) ((t .0 ∙ ap refusalNumber o) i)),
     )
 
 same-length : tie.Need-same-length Inv-loop μ-loop
@@ -108,7 +117,7 @@ fill-spec =
     shared-slice-copy-out-convert-one-2
     convert-one-requires
     store-requires
-    put-byte-requires
+    slice-write-refusals
     add-k
     loop-less
     loop-again

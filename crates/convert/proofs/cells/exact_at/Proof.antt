@@ -3,25 +3,25 @@ use Prim.Native.Nat.{_+_, _*_, _<_}
 use mathlib.Core.Path.{ap, _∙_}
 use Rattle.grid.specs.Grid.{nodeLists, gridOf}
 use Rattle.grid.specs.declared.Shape.{Shape}
+use Rattle.grid.proofs.Passing.{good}
 use Rattle.shift.specs.Shift.{northwest, exactIn, exactOf}
 use Rattle.shift.proofs.OnGrid.{found-corners, found-weights, found-range, found-exact}
 use Rattle.convert.proofs.CellLaws.{AtPoint, at-point}
-use borrow.Author.Needs.{needs}
 use Rattle.convert.proofs.cells.exact_at.Statement.{statement}
 use Rattle.convert.proofs.cells.exact_at.Tie as tie
 
-there : (c : tie.After-shape) → let a = c .before .args in AtPoint (gridOf (a .h) (a .lat .now) (a .lon .now)) (c .shape .result) (a .x) (a .y)
-there c = at-point _ (c .before .pre .0) (c .shape .ensures) (c .before .pre .1 .0) (c .before .pre .1 .1)
+there : (c : tie.After-shape-of) → let a = c .before .args in AtPoint (gridOf (a .h) (a .lat .now) (a .lon .now)) (c .shape-of .result) (a .x) (a .y)
+there c = at-point _ (c .before .pre .0) (c .shape-of .ensures) (c .before .pre .1 .0) (c .before .pre .1 .1)
 
 -- the corners are nodes
-corners : (c : tie.After-cell-at) → northwest (c .before .shape .result .cols) (c .cell-at .result) + 1 < c .before .shape .result .rows * c .before .shape .result .cols
+corners : (c : tie.After-cell-at) → northwest (c .before .shape-of .result .cols) (c .cell-at .result) + 1 < c .before .shape-of .result .rows * c .before .shape-of .result .cols
 corners c = let t = there (c .before) in found-corners (t .sizes) (t .in-x) (t .in-y) (c .cell-at .ensures)
 
-few : (c : tie.After-cell-at) → northwest (c .before .shape .result .cols) (c .cell-at .result) + 1 < 2048
+few : (c : tie.After-cell-at) → northwest (c .before .shape-of .result .cols) (c .cell-at .result) + 1 < 2048
 few c = omega (arith, corners c, there (c .before) .sizes .nodes)
 
-shape-requires : tie.Need-shape-requires
-shape-requires c κs = search needs
+shape-of-requires : tie.Need-shape-of-requires
+shape-of-requires c κs = good _ (c .pre .0) .unbroken
 
 cell-at-requires : tie.Need-cell-at-requires
 cell-at-requires c κs = (there c .sizes, there c .in-x, there c .in-y)
@@ -58,7 +58,7 @@ returns c =
     let ns = nodeLists (a .lat .now) (a .lon .now) in
     let y = c .before .before .corners-at .ensures in
     let x = c .before .corners-at2 .ensures in (
-      c .interpolate .ensures .0 ∙ (λ i. exactIn (y i) (x i) (k .cell-at .result .distances)) ∙ found-exact (t .sizes) (t .in-x) (t .in-y) (k .cell-at .ensures) ns ∙ ap (λ (s : Shape). exactOf s ns (a .x) (a .y)) (k .before .shape .ensures),
+      c .interpolate .ensures .0 ∙ (λ i. exactIn (y i) (x i) (k .cell-at .result .distances)) ∙ found-exact (t .sizes) (t .in-x) (t .in-y) (k .cell-at .ensures) ns ∙ ap (λ (s : Shape). exactOf s ns (a .x) (a .y)) (k .before .shape-of .ensures),
       c .interpolate .ensures .1,
     )
 
@@ -66,7 +66,7 @@ pub exact-at-spec : {M : Type 1} → statement M
 exact-at-spec =
     tie.close
     (tie.spec
-    shape-requires
+    shape-of-requires
     cell-at-requires
     mul-sw
     add-sw

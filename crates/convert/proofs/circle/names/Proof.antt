@@ -2,7 +2,7 @@ use Rattle.laws.specs.Circle.{below-range, from-range}
 use Rattle.laws.specs.Tests.{lt-yes, lt-no}
 use Rattle.laws.specs.Expr.{Expr, need, reads₂, linear, fitting, lit, nat, _⊖_, ⊝}
 use Rattle.laws.specs.Parts.{ints}
-use mathlib.Core.Path.{_∙_}
+use mathlib.Core.Path.{sym, _∙_}
 use native.Mathlib.Omega.{arith}
 use lib.IntN.{pos, _-ℤ_}
 use lib.Signed.{ltZ}
@@ -26,7 +26,7 @@ returns : tie.Need-returns
 returns c =
     let s = c .before in
     let t = lt-yes (fitting (s .fits .v)) (low s) tt (c .if1 .taken) in
-    below-range _ _ (omega (arith, ints, t, linear (low s), linear (⊝ (end s))))
+    sym (below-range _ _ (omega (arith, ints, t, linear (low s), linear (⊝ (end s)))))
 
 returns-2 : tie.Need-returns-2
 returns-2 c =
