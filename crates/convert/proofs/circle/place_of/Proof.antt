@@ -3,6 +3,7 @@ use Rattle.laws.specs.Tests.{lt-yes, lt-no}
 use Rattle.laws.specs.Expr.{Expr, all-needs, reads, reads-keep, linear, bounded, lit, nat, _⊕_, _⊖_, _⊛_, ⊝}
 use mathlib.Core.Logic.{_⊎_, ⊎-elim}
 use Rattle.laws.specs.Parts.{Within, ints}
+use Rattle.convert.proofs.Places.{named-within}
 use mathlib.Core.Path.{_≡_, sym, ap, _∙_}
 use native.Mathlib.Omega.{arith}
 use Prim.Native.Nat.{_*_}
@@ -26,7 +27,7 @@ module _ (s : tie.Start) where
   down = bounded v-within ⊖ lit (pos 2) ⊛ end
 
   within : {w : ℤ} → Named (s .args .half) w → Within 64800000000 w
-  within n = omega (arith, ints, n, s .pre .1, linear (⊝ end))
+  within n = named-within n (s .pre .1)
 
 -- what the test of the range tells
 module _ (c : tie.After-names) where

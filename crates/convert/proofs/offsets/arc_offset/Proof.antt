@@ -4,7 +4,7 @@ use Rattle.laws.specs.Expr.{Expr, need, reads₂, linear, bounded, fitting, lit
 use Rattle.laws.specs.Logic.{leZ-holds, leZ-fails}
 use Rattle.laws.specs.Parts.{Within, ints}
 use Rattle.convert.specs.Points.{arcOffset}
-use Rattle.convert.proofs.Places.{arc-nowhere, arc-beyond, arc-at}
+use Rattle.convert.proofs.Places.{named-within, arc-nowhere, arc-beyond, arc-at}
 use mir.Facts.{toZ-ofZ}
 use mathlib.Core.Path.{_≡_, sym, ap, _∙_}
 use native.Mathlib.Omega.{arith}
@@ -23,7 +23,7 @@ module _ (s : tie.Start) where
   from-named = named (s .pre .1)
 
   from-within : Within 64800000000 (s .args .from)
-  from-within = omega (arith, ints, from-named, s .pre .0, linear (⊝ half))
+  from-within = named-within from-named (s .pre .0)
 
 -- not below `from`
 not-west : (c : tie.Else1) → c .before .args .from ≤ℤ c .before .args .v
@@ -40,7 +40,7 @@ module _ (c : tie.Else2) where
       record { low = omega (arith, ints, not-west (c .before), from-named start); high = t }
 
   v-within : Within 64800000000 (start .args .v)
-  v-within = omega (arith, ints, v-named, start .pre .0, linear (⊝ (half start)))
+  v-within = named-within v-named (start .pre .0)
 
   abbrev apart : Expr (start .args .v -ℤ start .args .from)
   apart = bounded v-within ⊖ bounded (from-within start)

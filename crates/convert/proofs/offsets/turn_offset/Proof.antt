@@ -2,7 +2,7 @@ use Rattle.laws.specs.Circle.{distance, Named, named, names-it, below-range, di
 use Rattle.laws.specs.Tests.{lt-yes, lt-no, need-cast, reads-cast}
 use Rattle.laws.specs.Expr.{Expr, all-needs, need, linear, bounded, fitting, lit, nat, _⊕_, _⊖_, _⊛_, ⊝}
 use Rattle.laws.specs.Parts.{Within, ints}
-use Rattle.convert.proofs.Places.{arc-nowhere, arc-beyond, arc-at}
+use Rattle.convert.proofs.Places.{named-within, arc-nowhere, arc-beyond, arc-at}
 use mathlib.Core.Path.{_≡_}
 use native.Mathlib.Omega.{arith}
 use Prim.Native.Nat.{ℕ, _*_, _<_}
@@ -23,7 +23,7 @@ module _ (s : tie.Start) where
   from-named = named (s .pre .1)
 
   from-within : Within 64800000000 (s .args .from)
-  from-within = omega (arith, ints, from-named, s .pre .0, linear (⊝ half))
+  from-within = named-within from-named (s .pre .0)
 
 -- in the range
 module _ (c : tie.Else1) where
@@ -38,7 +38,7 @@ module _ (c : tie.Else1) where
       record { low = omega (arith, ints, t, g, h); high = omega (arith, ints, start .pre .2, from-named start) }
 
   v-within : Within 64800000000 (start .args .v)
-  v-within = omega (arith, ints, v-named, start .pre .0, linear (⊝ (half start)))
+  v-within = named-within v-named (start .pre .0)
 
   abbrev around : Expr (start .args .v -ℤ start .args .from +ℤ pos 2 *ℤ pos (start .args .half))
   around = bounded v-within ⊖ bounded (from-within start) ⊕ lit (pos 2) ⊛ half start
