@@ -87,10 +87,13 @@ def main():
         taken.add(mapping[n])
     print(len(mapping), "names")
 
-    def turn(text, skip, dashes):
+    def turn(text, skip, dashes, rust):
         def one(m):
             t = m.group(0)
             if t in skip or t not in mapping or ("-" in t and not dashes):
+                return t
+            # a name that is spelled as Rust spells a function's may be one, in src/ and in a path
+            if re.fullmatch(r"[a-z0-9_]+", t) and (rust or text[m.start() - 1:m.start()] == "."):
                 return t
             return mapping[t]
         return TOKEN.sub(one, text)
@@ -111,9 +114,9 @@ def main():
                 cut = at.start() + len(at.group(1))
                 code, said = line[:cut], line[cut:]
             if p.endswith(".edit") and not re.match(r"(old|new): ", line):
-                lines.append(turn(line, skip, False))
+                lines.append(turn(line, skip, False, True))
                 continue
-            lines.append(turn(code, skip, True) + turn(said, skip, False))
+            lines.append(turn(code, skip, True, p.endswith(".rt")) + turn(said, skip, False, p.endswith(".rt")))
         new = "\n".join(lines)
         if new != text:
             changed += 1
