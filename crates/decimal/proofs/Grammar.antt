@@ -1,7 +1,7 @@
 -- The texts that are numbers are the spelled numbers, and those whose bytes are all pushed.
 use Prim.Native.Nat.{ℕ, zero, suc, ◌+◌, ◌-◌, ◌*◌, ◌%◌, ◌/◌, ◌^◌, ◌≤◌, ◌<◌}
 use mathlib.Core.Path.{◌≡◌, refl, sym, ap, ◌∙◌, subst}
-use mathlib.Core.Bool.{true, false, not, ◌&&◌, ◌||◌, false≢true}
+use mathlib.Core.Bool.{true, not, ◌&&◌, ◌||◌, false≢true}
 use mathlib.Core.List.{List, [], ◌∷◌, ◌++◌, append_assoc, append-nil}
 use mathlib.Core.Option.{Option, none as nothing, some, some-injective, some-ne-none}
 use native.Mathlib.Omega.{arith}

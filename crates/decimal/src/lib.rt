@@ -1,4 +1,6 @@
 // Decimal numbers as text: an optional minus and 1 to 11 digits; no plus, no leading zero, no `-0`.
+#![tactic(auto)]
+
 mod reading;
 mod spelling;
 
@@ -11,7 +13,7 @@ use figures::Refusal;
 use writing::Written;
 
 // A number as far as its text was read.
-#[derive(Drop)]
+#[derive(Clone, Copy)]
 pub struct Number {
     pub begun: bool,
     pub negative: bool,
@@ -19,14 +21,14 @@ pub struct Number {
 }
 
 // What a byte makes of a number.
-#[derive(Drop)]
+#[derive(Clone, Copy)]
 pub enum Pushed {
     Grown(Number),
     Refused,
 }
 
 // What a whole text is.
-#[derive(Drop)]
+#[derive(Clone, Copy)]
 pub enum NumberRead {
     Number(i64),
     Refused,

@@ -20,6 +20,7 @@ impl Number {
     }
 
     // The number with one byte more, or a refusal at the first byte after which no number can follow.
+    #[tactic(auto, unfolding(crate::specs::Pushing::pushed, crate::specs::Pushing::minus_pushed))]
     pub fn push(self, byte: u8) -> Pushed
         ensures { result ≡ pushed self byte }
     {
@@ -33,6 +34,7 @@ impl Number {
     }
 
     // The integer that was read. A magnitude that no text has is 0.
+    #[tactic(auto, unfolding(crate::specs::Pushing::value_of))]
     pub fn value(self) -> i64
         ensures { result ≡ value_of self }
     {
@@ -47,6 +49,7 @@ impl Number {
 }
 
 // A minus stands before all digits, once.
+#[tactic(auto, unfolding(crate::specs::Pushing::minus_pushed))]
 fn push_minus(number: Number, byte: u8) -> Pushed
     ensures { result ≡ minus_pushed number byte }
 {
@@ -67,6 +70,7 @@ fn push_minus(number: Number, byte: u8) -> Pushed
 }
 
 // After a leading 0 and after 11 digits no digit follows, and no 0 after a minus.
+#[tactic(auto, unfolding(crate::specs::Pushing::digit_pushed))]
 fn push_digit(number: Number, digit: u64) -> Pushed
     requires { digit ≤ 9 }
     ensures { result ≡ digit_pushed number digit }

@@ -1,15 +1,17 @@
 // The figures of the two datums, points of each, and the refusals.
+#![tactic(auto)]
+
 ghost use Rattle.std.specs.Prelude.{◌≡◌};
 ghost use Rattle.figures.specs.Refusal.{number_of, place_of};
 ghost use Rattle.figures.specs.Points.{point27, point83};
 ghost use Rattle.figures.specs.Same.{same_pair, same27, same83};
 
 // A NAD 27 figure, in thousandths of an arc second.
-#[derive(Drop)]
+#[derive(Clone, Copy)]
 pub struct Nad27(pub i64);
 
 // A NAD 83 figure, in hundred-thousandths of an arc second.
-#[derive(Drop)]
+#[derive(Clone, Copy)]
 pub struct Nad83(pub i64);
 
 // A longitude is a place on a circle, each named once: by a number from -HALF_TURN to HALF_TURN - 1.
@@ -22,13 +24,13 @@ impl Nad83 {
 }
 
 // Latitude is positive north and longitude positive east, in both datums.
-#[derive(Drop)]
+#[derive(Clone, Copy)]
 pub struct Point27 {
     pub lat: Nad27,
     pub lon: Nad27,
 }
 
-#[derive(Drop)]
+#[derive(Clone, Copy)]
 pub struct Point83 {
     pub lat: Nad83,
     pub lon: Nad83,
@@ -87,7 +89,7 @@ fn same_pair(a: i64, b: i64, c: i64, d: i64) -> bool
 
 // Why the answer is no: one variant for each row of document 01's table, and for each refusal that a request of document 02 adds, with the
 // place where that varies.
-#[derive(Drop)]
+#[derive(Clone, Copy)]
 pub enum Refusal {
     // 1: the line that is missing, extra or not of its form, from 1.
     Form(usize),

@@ -186,7 +186,7 @@ module _ {half : ℕ} (l : 0 < half) where
 
   -- ---- from a difference, or a number, that is `k` turns off
 
-  distance_is : (from v k : ℤ) {x : ℕ} → pos x ≡ v -ℤ from +ℤ k *ℤ pos (2 * half) → x < 2 * half → distance half from v ≡ x
+  pub distance_is : (from v k : ℤ) {x : ℕ} → pos x ≡ v -ℤ from +ℤ k *ℤ pos (2 * half) → x < 2 * half → distance half from v ≡ x
   unfolding distance
   distance_is from v k e s = sym (modulo_turned (v -ℤ from) k turn) ∙ ap (λ z. modulo z (2 * half)) (sym e) ∙ modulo_small s
 

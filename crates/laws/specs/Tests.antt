@@ -56,4 +56,4 @@ part-whole {x = negsuc n} h = absurd h.le
 
 -- what is read of a slice, as it comes back from the machine
 pub element : {z : ℤ} → mag z < 2 ^ 63 → machine z ≡ z
-element h = to_z-of_z (record { sfits = h })
+element h = to_z-of_z {w = w64} (record { sfits = h })

@@ -1,4 +1,6 @@
 // Lines of text written into lent room: a key, and any number of numbers with commas between.
+#![tactic(auto)]
+
 ghost use Rattle.std.specs.Prelude.{◌+◌, ◌*◌, ◌≤◌, ◌++◌, length};
 ghost use Rattle.writing.specs.Writing.{Wrote, Put};
 ghost use Rattle.decimal.specs.Spelling.{spell};

@@ -1,4 +1,6 @@
 // The size of a number: how far it is from 0.
+#![tactic(auto)]
+
 ghost use Rattle.std.specs.Prelude.{◌≡◌, nat_abs};
 
 // The smallest number has no negation, but the number above it has.

@@ -1,6 +1,9 @@
-// Elements of lent slices, at places that they may not have, and the lesser of two lengths.
-ghost use Rattle.std.specs.Prelude.{◌≡◌, min, get_or, set, pos};
+// Elements of lent slices, at places that they may not have, the lesser of two lengths, and the first place of a byte.
+#![tactic(auto)]
+
+ghost use Rattle.std.specs.Prelude.{◌≡◌, ◌+◌, ◌≤◌, length, min, max, get_or, set, drop, pos};
 ghost use Rattle.std.proofs.lemmas.List.Edits.{sets};
+ghost use Rattle.slices.specs.Places.{index_of};
 
 // The number at a place; behind the end it is 0.
 pub fn number_at(s: &[i64], k: usize) -> i64
@@ -48,4 +51,20 @@ pub fn least(a: usize, b: usize) -> usize
     ensures { result ≡ min a b }
 {
     if a < b { a } else { b }
+}
+
+// The first place of a byte from `from` on, or the end.
+#[tactic(auto, using(crate::proofs::Places::found_here, crate::proofs::Places::found_later, crate::proofs::Places::found_at_end))]
+pub fn find(s: &[u8], from: usize, byte: u8) -> usize
+    ensures place { result ≡ from + index_of byte (drop from s.now) }
+    ensures bound { result ≤ max from (length s.now) }
+{
+    let mut i = from;
+    while i < s.len() {
+        if s[i] == byte {
+            return i;
+        }
+        i += 1;
+    }
+    i
 }

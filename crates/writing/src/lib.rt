@@ -1,11 +1,13 @@
 // Text written into lent room. Every writer answers `Written`; to know beforehand how many bytes a text takes, it is written into a
 // room of none.
+#![tactic(auto)]
+
 ghost use Rattle.std.specs.Prelude.{◌≡◌, ◌+◌};
 ghost use Rattle.writing.specs.Writing.{saturated, bytes_of, Wrote};
 
 use figures::Refusal;
 
-#[derive(Drop)]
+#[derive(Clone, Copy)]
 pub enum Written {
     // The number of bytes of the text, which is at the front of the room.
     Bytes(usize),

@@ -1,0 +1,15 @@
+-- The first k numbers are put.
+use Rattle.std.proofs.Common.{◌*◌, ◌-◌, ◌≤◌, length, take}
+use Rattle.writing.specs.Writing.{Put}
+use Rattle.lines.specs.Text.{listed}
+use Rattle.lines.proofs.put_numbers.Given as goal
+
+abbrev pub invariant-loop-k : goal.invariant-loop-k
+invariant-loop-k l = record {
+  in_range : l.k ≤ length l.numbers;
+  put : Put (listed (take l.k l.numbers)) l.fn.room l.room l.at;
+  short : length (listed (take l.k l.numbers)) ≤ 21 * l.k;
+}
+
+abbrev pub decreases-loop-k : goal.decreases-loop-k
+decreases-loop-k l = length l.numbers - l.k
