@@ -78,6 +78,19 @@ at_most_yes y r e n = ap (λ z. le_z z y) (sym r) ∙ sym e ∙ not-false _ n
 pub at_most_no : (y : ℤ) {v x : ℤ} {b : Bool} → v ≡ x → b ≡ le_z v y → not b ≡ true → le_z x y ≡ false
 at_most_no y r e n = ap (λ z. le_z z y) (sym r) ∙ sym e ∙ not-true _ n
 
+-- and where the code's test is the call itself
+pub between_told : (lo hi : ℤ) {x : ℤ} {b : Bool} → SFits w64 x → b ≡ between lo (machine x) hi → b ≡ true → between lo x hi ≡ true
+between_told lo hi f e n = between_yes lo hi f e (ap not n)
+
+pub between_denied : (lo hi : ℤ) {x : ℤ} {b : Bool} → SFits w64 x → b ≡ between lo (machine x) hi → b ≡ false → between lo x hi ≡ false
+between_denied lo hi f e n = between_no lo hi f e (ap not n)
+
+pub at_most_told : (y : ℤ) {v x : ℤ} {b : Bool} → v ≡ x → b ≡ le_z v y → b ≡ true → le_z x y ≡ true
+at_most_told y r e n = at_most_yes y r e (ap not n)
+
+pub at_most_denied : (y : ℤ) {v x : ℤ} {b : Bool} → v ≡ x → b ≡ le_z v y → b ≡ false → le_z x y ≡ false
+at_most_denied y r e n = at_most_no y r e (ap not n)
+
 pub ruleset tests = (first_of, pass, stop, none, between_yes, between_no, at_most_yes, at_most_no)
 
 pub last_node_is : {from step n r : ℤ} → SFits w64 from → SFits w64 step → SFits w64 n → r ≡ last_node (machine from) (machine step) (machine n) → r ≡ last_node from step n

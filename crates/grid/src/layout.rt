@@ -6,6 +6,7 @@ ghost use Rattle.grid.specs.Check.{check_outcome, layout};
 use super::{Checked, Header};
 use figures::Refusal;
 
+#[tactic(auto, unfolding(crate::specs::Check::layout))]
 pub fn check<'a>(h: Header, lat: &'a [i64], lon: &'a [i64]) -> Checked
     ensures { check_outcome result ≡ layout (grid_of h lat.now lon.now) }
 {

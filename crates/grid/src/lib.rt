@@ -1,6 +1,8 @@
 // One region's shift grid, which document 01 calls the sheet: its header, and the checks that a grid passes.
 // A grid is a header and two lent slices, the latitude and the longitude shifts of its nodes in hundred-thousandths of an arc
 // second. Nodes run from the southernmost row north, each row from west to east.
+#![tactic(auto)]
+
 mod changes;
 pub mod layout;
 mod nodes;
@@ -16,7 +18,7 @@ ghost use Rattle.grid.specs.Nodes.{beyond_range};
 use figures::{Nad27, Refusal};
 
 // South and west edge, spacing of rows and columns in thousandths of an arc second, number of rows and columns.
-#[derive(Drop)]
+#[derive(Clone, Copy)]
 pub struct Header {
     pub south: Nad27,
     pub west: Nad27,
@@ -42,7 +44,7 @@ impl Header {
 }
 
 // The header's sizes as natural numbers: what is left of it in local coordinates.
-#[derive(Drop)]
+#[derive(Clone, Copy)]
 pub struct Shape {
     pub rows: usize,
     pub cols: usize,
@@ -53,7 +55,7 @@ pub struct Shape {
 // The largest size of a shift, 60 arc seconds.
 pub const MAX_SHIFT: i64 = 6_000_000;
 
-#[derive(Drop)]
+#[derive(Clone, Copy)]
 pub enum Checked {
     Passes,
     Refused(Refusal),

@@ -13,7 +13,7 @@ use figures::Refusal;
 use slices::number_at;
 
 // What the nodes are judged for.
-#[derive(Drop)]
+#[derive(Clone, Copy)]
 pub(crate) enum NodeCheck {
     Range,
     Steepness,
@@ -61,7 +61,7 @@ fn fails<'a>(check: NodeCheck, shape: Shape, lat: &'a [i64], lon: &'a [i64], k: 
     ensures { result ≡ fails_at check shape (node_lists lat.now lon.now) k }
 {
     match check {
-        NodeCheck::Range => out_of_range_lem(lat, lon, k),
+        NodeCheck::Range => out_of_range(lat, lon, k),
         NodeCheck::Steepness => steep_at(shape, lat, lon, k),
         NodeCheck::Twist => twisted_at(shape, lat, lon, k),
     }

@@ -1,4 +1,6 @@
 // A grid's file: what a program read of it, or refusal 9.
+#![tactic(auto)]
+
 ghost use Rattle.std.specs.Prelude.{◌≡◌};
 ghost use Rattle.figures.specs.Outcome.{map_answer};
 ghost use Rattle.grid.specs.Grid.{node_lists};
@@ -13,7 +15,7 @@ use slices::least;
 pub const MAX_FILE: usize = 48_000;
 
 // What a program read.
-#[derive(Drop)]
+#[derive(Clone, Copy)]
 pub enum Loaded {
     // So many bytes, at the front of the room that they were read into.
     Bytes(usize),
@@ -22,6 +24,7 @@ pub enum Loaded {
 }
 
 // Reads the grid of a file. A refusal leaves both slices as they were.
+#[tactic(auto, using(crate::proofs::Laws::not_too_long), unfolding(crate::specs::File::reading_file, grid_reader::specs::Reading::nodes_after))]
 pub fn read(loaded: Loaded, room: &[u8], lat: &mut [i64], lon: &mut [i64]) -> GridRead
     ensures answer { read_outcome result ≡ map_answer header_of (reading_file loaded room.now (node_lists lat.old lon.old)) }
     ensures nodes { node_lists lat.new lon.new ≡ nodes_after (reading_file loaded room.now (node_lists lat.old lon.old)) (node_lists lat.old lon.old) }

@@ -15,7 +15,7 @@ use Rattle.decimal.specs.declared.Number.{Number}
 use Rattle.decimal.specs.declared.Pushed.{Pushed}
 use Rattle.decimal.proofs.Spelled.{first_digit, more_digit}
 use Rattle.grid.specs.Grid.{Nodes, node_room}
-use Rattle.grid_reader.specs.Scan.{number_sign, count_at, whole_at, form_at, start, closed, leads, grown, number_step, literal_step, step, fed, ended, finished}
+use Rattle.grid_reader.specs.Scan.{number_sign, count_at, whole_at, form_at, start, closed, leads, grown, number_step, literal_step, step, fed, finished}
 use Rattle.grid_reader.specs.declared.Scan.{Scan}
 use Rattle.grid_reader.specs.declared.Step.{Step}
 use Rattle.grid_reader.specs.declared.Taken.{Taken}

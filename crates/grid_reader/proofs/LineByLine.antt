@@ -17,7 +17,7 @@ use Rattle.laws.specs.Over.{over}
 use Rattle.decimal.specs.Pushing.{none}
 use Rattle.decimal.specs.declared.Number.{Number}
 use Rattle.lines.specs.Text.{newline}
-use Rattle.grid.specs.Grid.{header, Nodes, no_nodes, add_node, over_nodes, node_room, Grid, grid_with}
+use Rattle.grid.specs.Grid.{Nodes, no_nodes, add_node, over_nodes, node_room, Grid, grid_with}
 use Rattle.grid.specs.Rules.{broken_rule, shape, node_count}
 use Rattle.grid.specs.Nodes.{beyond_range}
 use Rattle.grid.specs.Check.{layout, smoothness}

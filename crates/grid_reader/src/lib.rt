@@ -1,4 +1,6 @@
 // A grid read from its text.
+#![tactic(auto)]
+
 mod nodes;
 mod scanner;
 mod state;
@@ -16,7 +18,7 @@ use grid::{Checked, Header};
 use slices::least;
 
 // A text as far as it was read.
-#[derive(Drop)]
+#[derive(Clone, Copy)]
 pub(crate) struct Scan {
     // The place in the form, and the number under way there.
     pub at: usize,
@@ -30,7 +32,7 @@ pub(crate) struct Scan {
 }
 
 // What a byte does.
-#[derive(Drop)]
+#[derive(Clone, Copy)]
 pub(crate) enum Step {
     On(Scan),
     // The line of a node has ended, with these shifts.
@@ -39,13 +41,13 @@ pub(crate) enum Step {
 }
 
 // What a text comes to.
-#[derive(Drop)]
+#[derive(Clone, Copy)]
 pub(crate) enum Taken {
     On(Scan),
     Refused(Refusal),
 }
 
-#[derive(Drop)]
+#[derive(Clone, Copy)]
 pub enum GridRead {
     Grid(Header),
     Refused(Refusal),
@@ -66,6 +68,7 @@ pub fn read(text: &[u8], lat: &mut [i64], lon: &mut [i64]) -> GridRead
 }
 
 // The text has ended. Nothing is stored before the whole of it has passed.
+#[tactic(auto, unfolding(crate::specs::Reading::nodes_after))]
 fn finish<'a>(
     s: Scan,
     lats: &'a [i64],

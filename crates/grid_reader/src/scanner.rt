@@ -42,7 +42,7 @@ pub(crate) fn advance(s: Scan, byte: u8, room: usize) -> Step
     ensures { result ≡ step room s byte }
 {
     if form_at(s.at) == b'#' {
-        return number_step_lem(s, byte, room);
+        return number_step(s, byte, room);
     }
     literal_step(s, byte)
 }
@@ -59,7 +59,7 @@ fn literal_step(s: Scan, byte: u8) -> Step
     Step::On(s.at_place(s.at + 1))
 }
 
-fn number_step_lem(s: Scan, byte: u8, room: usize) -> Step
+fn number_step(s: Scan, byte: u8, room: usize) -> Step
     requires { form_at s.at ≡ number_sign }
     ensures { result ≡ number_step room s byte }
 {

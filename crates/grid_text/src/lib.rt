@@ -1,4 +1,6 @@
 // A grid written as text.
+#![tactic(auto)]
+
 mod parts;
 
 ghost use Rattle.std.specs.Prelude.{◌≡◌};

@@ -1,4 +1,6 @@
 // There and back in text, on the real reader and writer.
+#![tactic(auto)]
+
 ghost use Rattle.std.specs.Prelude.{◌≡◌};
 ghost use Rattle.writing.specs.Writing.{room_after, written_outcome};
 ghost use Rattle.grid.specs.Grid.{node_lists, grid_of};
