@@ -18,7 +18,7 @@ pub const TO83: u8 = 1;
 pub const TO27: u8 = 2;
 
 // What a batch comes to.
-#[derive(Drop)]
+#[derive(Clone, Copy)]
 pub enum Filled {
     // The number of requests. Each has its answer, or the number of its refusal.
     Requests(usize),
@@ -26,7 +26,7 @@ pub enum Filled {
 }
 
 // What one request comes to: an answer by its way, or a refusal.
-#[derive(Drop)]
+#[derive(Clone, Copy)]
 pub(crate) enum Converted {
     In83(Shifted),
     In27(Point27),
@@ -93,7 +93,7 @@ fn fill<'a>(
     refusals: &mut [u8],
 )
     requires passes { Passes (grid_of h lat.now lon.now) }
-    requires ways_in_bounds { (2 * length ways.now ≤ length points.now) × (4 * length ways.now ≤ length answers.old) × (length ways.now ≤ length refusals.old) }
+    requires room { (2 * length ways.now ≤ length points.now) × (4 * length ways.now ≤ length answers.old) × (length ways.now ≤ length refusals.old) }
     ensures answers { answers.new ≡ answers_to (request_outcome (grid_of h lat.now lon.now) ways.now points.now) (length ways.now) answers.old }
     ensures refusals { refusals.new ≡ refusals_to (request_outcome (grid_of h lat.now lon.now) ways.now points.now) (length ways.now) refusals.old }
 {

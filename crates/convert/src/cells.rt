@@ -22,7 +22,7 @@ pub(crate) fn exact_at<'a>(
     y: usize,
 ) -> ExactShift
     requires passes { Passes (grid_of h lat.now lon.now) }
-    requires x_bound { (x ≤ width h) × (y ≤ height h) }
+    requires inside { (x ≤ width h) × (y ≤ height h) }
     ensures { (result ≡ exact_of (shape h) (node_lists lat.now lon.now) x y) × (ExactIn result) }
 {
     let shape = shape_of(h);

@@ -9,7 +9,7 @@ ghost use Rattle.shift.specs.Needs.{Weighted, CornersIn, ExactIn};
 
 use shift::{Corners, Distances, ExactShift};
 
-// Equation 2 of both components: Sp = ((S1.B + S2.A)·D + (S3.B + S4.A)·C) / ((A + B)(C + D)).
+// Equation 2 of both components: Sp = ((S1·B + S2·A)·D + (S3·B + S4·A)·C) / ((A + B)(C + D)).
 pub(crate) fn interpolate(lat: Corners, lon: Corners, at: Distances) -> ExactShift
     requires { (CornersIn lat) × (CornersIn lon) × (Weighted at) }
     ensures { (result ≡ exact_in lat lon at) × (ExactIn result) }
@@ -21,7 +21,7 @@ pub(crate) fn interpolate(lat: Corners, lon: Corners, at: Distances) -> ExactShi
     }
 }
 
-// Along one row, from its west corner S1 to its east corner S2: equation 1, Sp = (S1.B + S2.A) / (A + B), before its division.
+// Along one row, from its west corner S1 to its east corner S2: equation 1, Sp = (S1·B + S2·A) / (A + B), before its division.
 fn row_sum(s1: i64, s2: i64, at: Distances) -> i64
     requires { (Within max_shift s1) × (Within max_shift s2) × (Weighted at) }
     ensures { (result ≡ row_sum s1 s2 at) × (Within 5400000000000 result) }

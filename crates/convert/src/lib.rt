@@ -1,4 +1,6 @@
 // Points from NAD 27 to NAD 83 and back, over a grid.
+#![tactic(auto)]
+
 pub mod batch;
 mod cells;
 mod circle;
@@ -24,19 +26,19 @@ use offsets::Place;
 use shift::{ExactShift, Shift, Signs};
 
 // A point's answer: where it is in NAD 83, and for each coordinate the sign of the rounded shift minus the exact one.
-#[derive(Drop)]
+#[derive(Clone, Copy)]
 pub struct Shifted {
     pub point: Point83,
     pub signs: Signs,
 }
 
-#[derive(Drop)]
+#[derive(Clone, Copy)]
 pub enum Answer83 {
     Point(Shifted),
     Refused(Refusal),
 }
 
-#[derive(Drop)]
+#[derive(Clone, Copy)]
 pub enum Answer27 {
     Point(Point27),
     Refused(Refusal),
@@ -91,8 +93,8 @@ fn forward<'a>(h: Header, lat: &'a [i64], lon: &'a [i64], p: Point27) -> Answer8
 
 // A point's answer, from the exact shift there.
 fn shift_point(p: Point27, e: ExactShift) -> Shifted
-    requires within { (Within 1000000000 p.lat.0) × (Within 648000000 p.lon.0) × (ExactIn e) }
-    requires within_2 { (Within max_shift (rounded_shift e).lat) × (Within max_shift (rounded_shift e).lon) }
+    requires ranges { (Within 1000000000 p.lat.0) × (Within 648000000 p.lon.0) × (ExactIn e) }
+    requires shifts { (Within max_shift (rounded_shift e).lat) × (Within max_shift (rounded_shift e).lon) }
     ensures { result ≡ shifted_by p e }
 {
     let shift = rounding::rounded_shift(e);

@@ -1,5 +1,7 @@
 // Request 10 of document 02 on the real conversions: two points are converted, and it is told whether their answers stand to each other as
 // the points do. Each contract says that they do, without saying how; it holds only since answers on a grid that passes keep their order.
+#![tactic(auto)]
+
 mod standing;
 
 ghost use Rattle.std.specs.Prelude.{◌≡◌};
@@ -13,7 +15,7 @@ use grid::Header;
 use standing::Standing;
 
 // Whether two answers stand to each other as their points do.
-#[derive(Drop)]
+#[derive(Clone, Copy)]
 pub enum Order {
     Kept,
     Changed,
@@ -21,14 +23,14 @@ pub enum Order {
     Unrelated,
 }
 
-#[derive(Drop)]
+#[derive(Clone, Copy)]
 pub enum Compared {
     Order(Order),
     Refused(Refusal),
 }
 
 // The answers of two points.
-#[derive(Drop)]
+#[derive(Clone, Copy)]
 enum Pair {
     Answers(Shifted, Shifted),
     Refused(Refusal),

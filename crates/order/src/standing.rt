@@ -7,7 +7,7 @@ ghost use Rattle.order.specs.Standings.{line_standing, edge_standing, is_east, c
 use figures::{Nad27, Nad83};
 
 // Whether the second is ahead of the first, north or east of it, and whether it is behind.
-#[derive(Drop)]
+#[derive(Clone, Copy)]
 pub(crate) struct Standing {
     pub(crate) ahead: bool,
     pub(crate) behind: bool,

@@ -1,5 +1,7 @@
 // Demand 3 on the real conversions: what goes there comes back, what comes back goes there, and no two points share an answer.
 // Each contract says what comes out without saying how; it holds only since the conversions undo each other.
+#![tactic(auto)]
+
 ghost use Rattle.std.specs.Prelude.{◌≡◌};
 ghost use Rattle.grid.specs.Grid.{grid_of};
 ghost use Rattle.convert.specs.Convert.{outcome83, outcome27};

@@ -10,7 +10,7 @@ use Rattle.laws.specs.Parts.{pos_part, neg_part, ints, Within, parts_disjoint, a
 use Rattle.laws.specs.Expr.{linear, lit, ◌⊕◌, ◌⊖◌, ◌⊛◌}
 use Rattle.bilinear.specs.Axis.{Near, near16, on_axis, Among}
 use Rattle.bilinear.specs.Surface.{surface, SlopeBound, surface_is, Nearest}
-use Rattle.bilinear.specs.Answers.{lipschitz, shift_between, shift_node}
+use Rattle.bilinear.proofs.AnswerLaws.{lipschitz, shift_between, shift_node}
 use Rattle.bilinear.specs.Search.{Regular}
 use Rattle.grid.specs.Grid.{Nodes}
 use Rattle.grid.specs.Nodes.{max_shift, node}
@@ -221,9 +221,9 @@ module _ {s : Shape} (z : Extent s) {S : List ℤ} (p : Sound s S) where
     raised_among : {S' : ℤ} → Within max_shift S' → Between lo S' hi → Among (raise lo) (raise hi) (raise S')
     raised_among w b = record { low = omega (arith, ints, b.low, raise_by l, raise_by w); high = omega (arith, ints, b.high, raise_by h, raise_by w) }
 
-    between_bounds : (let t = corners o in Between lo t.s1 hi × Between lo t.s2 hi × Between lo t.s3 hi × Between lo t.s4 hi)
+    pub between-corners : (let t = corners o in Between lo t.s1 hi × Between lo t.s2 hi × Between lo t.s3 hi × Between lo t.s4 hi)
         → Between lo (component s S x y) hi
-    between_bounds b =
+    between-corners b =
         let i = corners_range (cell_in z o) in
         let w = shift_range {x = x} {y = y} (rw (← (edges z).0) (on_axis o.along)) (rw (← (edges z).1) (on_axis o.up)) in
         let m = shift_between s.dlon s.dlat (s.cols - 2) (s.rows - 2) (spacings z).0 (spacings z).1 (raised_nodes s.cols S) _ nearest_everywhere o.along o.up
@@ -231,8 +231,8 @@ module _ {s : Shape} (z : Extent s) {S : List ℤ} (p : Sound s S) where
         record { low = omega (arith, ints, m.low, raise_by l, raise_by w); high = omega (arith, ints, m.high, raise_by h, raise_by w) }
 
   -- document 02, request 10: "between the least and greatest of its cell's corners"
-  pub between-corners : {x y : ℕ} {k : Cell} → CellOf s x y k → let t = corners_in s.cols S k in Between (least t) (component s S x y) (greatest t)
-  between-corners {k = k} o = let w = extremes_in (corners_range (cell_in z o)) in between_bounds o w.0 w.1 (corners-between (corners_in s.cols S k))
+  pub between_own_corners : {x y : ℕ} {k : Cell} → CellOf s x y k → let t = corners_in s.cols S k in Between (least t) (component s S x y) (greatest t)
+  between_own_corners {k = k} o = let w = extremes_in (corners_range (cell_in z o)) in between-corners o w.0 w.1 (corners-between (corners_in s.cols S k))
 
 -- ---- for the code: the cell `k` that it has found for a point of the grid
 

@@ -16,7 +16,7 @@ use Rattle.shift.specs.declared.Shift.{Shift}
 use Rattle.shift.specs.declared.Sign.{Sign}
 use Rattle.shift.specs.declared.Signs.{Signs}
 
--- the sum along one row, what equation 1 divides by A + B: S1-as-B + S2-as-A of the southern row, S3-as-B + S4-as-A of the northern one (document 02,
+-- the sum along one row, what equation 1 divides by A + B: S1·B + S2·A of the southern row, S3·B + S4·A of the northern one (document 02,
 -- request 4: "the two row sums")
 unfoldable pub row_sum : (s1 s2 : ℤ) → Distances → ℤ
 row_sum s1 s2 k = s1 *ℤ pos k.b +ℤ s2 *ℤ pos k.a

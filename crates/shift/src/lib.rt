@@ -1,10 +1,12 @@
 // The four-corner shift of one cell (USGS Bulletin 1875-B, equation 2): what it is, and its laws. The routine itself is private to
 // `convert`, which checks the grid before it reads a corner. Distances are in thousandths of an arc second.
+#![tactic(auto)]
+
 ghost use Rattle.std.specs.Prelude.{◌≡◌};
 ghost use Rattle.shift.specs.Sign.{sign_of, sign_number};
 
 // A point's distances from the sides of its cell: A and B from its west and east side, C and D from its south and north side.
-#[derive(Drop)]
+#[derive(Clone, Copy)]
 pub struct Distances {
     pub a: usize,
     pub b: usize,
@@ -13,7 +15,7 @@ pub struct Distances {
 }
 
 // One component's shifts at the corners of a cell: S1 southwest, S2 southeast, S3 northwest, S4 northeast.
-#[derive(Drop)]
+#[derive(Clone, Copy)]
 pub struct Corners {
     pub s1: i64,
     pub s2: i64,
@@ -22,7 +24,7 @@ pub struct Corners {
 }
 
 // The cell of a point: the row and column of its southwest node, and the point's distances from its sides.
-#[derive(Drop)]
+#[derive(Clone, Copy)]
 pub struct Cell {
     pub row: usize,
     pub col: usize,
@@ -30,7 +32,7 @@ pub struct Cell {
 }
 
 // The exact shift at a point: for each component a numerator, over one denominator.
-#[derive(Drop)]
+#[derive(Clone, Copy)]
 pub struct ExactShift {
     pub lat: i64,
     pub lon: i64,
@@ -38,20 +40,20 @@ pub struct ExactShift {
 }
 
 // The rounded shift: NAD 83 minus NAD 27, in hundred-thousandths of an arc second.
-#[derive(Drop)]
+#[derive(Clone, Copy)]
 pub struct Shift {
     pub lat: i64,
     pub lon: i64,
 }
 
 // For each component the sign of the rounded shift minus the exact fraction: zero where the shift is exact.
-#[derive(Drop)]
+#[derive(Clone, Copy)]
 pub struct Signs {
     pub lat: Sign,
     pub lon: Sign,
 }
 
-#[derive(Drop)]
+#[derive(Clone, Copy)]
 pub enum Sign {
     Negative,
     Zero,

@@ -1,0 +1,111 @@
+use Rattle.std.proofs.Common.{FitsSigned, Fits, w64, nat_abs, T, leb, leb→le, arith, ℕ, ◌≤◌, ◌<◌, ◌≡◌, true, ℤ, pos, ◌+ℤ◌, ◌-ℤ◌, ◌*ℤ◌, ◌≤ℤ◌, ◌<ℤ◌}
+use Rattle.std.proofs.Math.Nat.{mul-le-mul_right}
+use Rattle.std.specs.Int.Signed.{non_neg}
+use Rattle.laws.specs.Parts.{Within, ints}
+use Rattle.laws.specs.Expr.{Expr, machine, need, linear, bounded, fitting, lit, nat, ◌⊕◌, ◌⊖◌, ◌⊛◌, ⊝}
+use Rattle.laws.specs.Tests.{lt_yes, lt_no, need_cast, reads_cast}
+use Rattle.laws.specs.Circle.{names, Named, named, named_within, names_it, below_range, distance-around}
+use Rattle.convert.specs.Points.{arc_offset}
+use Rattle.convert.specs.declared.offsets.Offset.{Offset}
+use Rattle.convert.proofs.Places.{arc_nowhere, arc_beyond, arc_at}
+use Rattle.convert.proofs.offsets.turn_offset.Goals as goal
+
+-- the way from one place to another, by their names and with turns added, fits whichever they are
+module _ (half : ℕ) (x y : ℤ) (few : half ≤ 64800000000) (n : Named half x) (k : Named half y) where
+  apart_fits : FitsSigned w64 (machine x -ℤ machine y)
+  apart_fits = need (bounded (named_within n few) ⊖ bounded (named_within k few)) tt
+
+  module _ (m : ℕ) (some : T (leb 2 m)) (most : T (leb m 100)) where
+    abbrev turned : Expr (x -ℤ y +ℤ pos m *ℤ pos half)
+    turned = bounded (named_within n few) ⊖ bounded (named_within k few) ⊕ nat (leb→le _ _ most) ⊛ nat few
+
+    turned_fits : FitsSigned w64 turned.top
+    turned_fits = need turned tt
+
+    turned_cast : T (non_neg turned.got) × Fits w64 (nat_abs turned.got)
+    turned_cast =
+        let t = mul-le-mul_right half (leb→le _ _ some) in
+        need_cast turned (omega (arith, ints, n, k, t, linear turned, linear (⊝ (nat few)))) tt
+
+module _ (half : ℕ) (from : ℤ) (v : ℤ) (few : half ≤ 64800000000) (n : names half from ≡ true) (b : v <ℤ from) where
+  abbrev end : Expr (pos half)
+  end = nat few
+
+  abbrev low : Expr (pos 0 -ℤ pos half)
+  low = lit (pos 0) ⊖ end
+
+  from_named : Named half from
+  from_named = named n
+
+  from_within : Within 64800000000 from
+  from_within = named_within from_named few
+
+  -- in the range
+  module _ (t : (pos 0 -ℤ pos half) ≤ℤ v) where
+    v_named : Named half v
+    v_named =
+        let g = linear low in
+        let h = linear (⊝ end) in
+        record { low = omega (arith, ints, t, g, h); high = omega (arith, ints, b, from_named) }
+
+    v_within : Within 64800000000 v
+    v_within = named_within v_named few
+
+    abbrev around : Expr (v -ℤ from +ℤ pos 2 *ℤ pos half)
+    around = bounded v_within ⊖ bounded from_within ⊕ lit (pos 2) ⊛ end
+
+    around_natural : pos 0 ≤ℤ (v -ℤ from +ℤ pos 2 *ℤ pos half)
+    around_natural = omega (arith, ints, v_named, from_named, linear around, linear (⊝ end))
+
+    beyond : (length : ℕ) {x : ℕ} → pos x ≡ v -ℤ from +ℤ pos 2 *ℤ pos half → length < x → Offset.Outside ≡ arc_offset half from length v
+    beyond length e l = arc_beyond half from length v (names_it v_named) (distance-around from_named v_named b e) l
+
+    there : (length : ℕ) {x : ℕ} → pos x ≡ v -ℤ from +ℤ pos 2 *ℤ pos half → x ≤ length → Offset.At x ≡ arc_offset half from length v
+    there length e l = arc_at half from length v (names_it v_named) (distance-around from_named v_named b e) l
+
+pub returns-then-v-half : goal.returns-then-v-half
+returns-then-v-half c =
+    let a = c.args in
+    let p = c.requires in
+    let l = low a.half a.from a.v p.0 p.1 p.2 in
+    let h = end a.half a.from a.v p.0 p.1 p.2 in
+    let t = lt_yes (fitting c.ranges.v) l tt c.if-v-half.true in
+    arc_nowhere _ _ _ _ (below_range _ _ (omega (arith, ints, t, linear l, linear (⊝ h))))
+
+pub overflow_sub-east : goal.overflow_sub-east
+overflow_sub-east c =
+    let a = c.args in
+    let p = c.requires in
+    let f = from_named a.half a.from a.v p.0 p.1 p.2 in
+    let v = v_named a.half a.from a.v p.0 p.1 p.2 (lt_no (fitting c.ranges.v) (low a.half a.from a.v p.0 p.1 p.2) tt c.if-v-half.false) in
+    search (apart_fits a.half a.v a.from p.0 v f, apart_fits a.half a.from a.v p.0 f v)
+
+pub overflow_add-east : goal.overflow_add-east
+overflow_add-east c =
+    let a = c.args in
+    let p = c.requires in
+    let f = from_named a.half a.from a.v p.0 p.1 p.2 in
+    let v = v_named a.half a.from a.v p.0 p.1 p.2 (lt_no (fitting c.ranges.v) (low a.half a.from a.v p.0 p.1 p.2) tt c.if-v-half.false) in
+    search (turned_fits a.half a.v a.from p.0 v f 2 tt tt, turned_fits a.half a.from a.v p.0 f v 2 tt tt, turned_fits a.half a.v a.from p.0 v f 4 tt tt)
+
+pub overflow_cast-east-2 : goal.overflow_cast-east-2
+overflow_cast-east-2 c =
+    let a = c.args in
+    let p = c.requires in
+    let f = from_named a.half a.from a.v p.0 p.1 p.2 in
+    let v = v_named a.half a.from a.v p.0 p.1 p.2 (lt_no (fitting c.ranges.v) (low a.half a.from a.v p.0 p.1 p.2) tt c.if-v-half.false) in
+    search (turned_cast a.half a.v a.from p.0 v f 2 tt tt, turned_cast a.half a.from a.v p.0 f v 2 tt tt, turned_cast a.half a.v a.from p.0 v f 4 tt tt)
+
+pub returns-then-length-east : goal.returns-then-length-east
+returns-then-length-east c =
+    let a = c.args in
+    let p = c.requires in
+    let t = lt_no (fitting c.ranges.v) (low a.half a.from a.v p.0 p.1 p.2) tt c.if-v-half.false in
+    beyond a.half a.from a.v p.0 p.1 p.2 t a.length (reads_cast (around a.half a.from a.v p.0 p.1 p.2 t) (around_natural a.half a.from a.v p.0 p.1 p.2 t) tt) c.if-length-east.true
+
+pub returns : goal.returns
+returns c =
+    let a = c.args in
+    let p = c.requires in
+    let t = lt_no (fitting c.ranges.v) (low a.half a.from a.v p.0 p.1 p.2) tt c.if-v-half.false in
+    there a.half a.from a.v p.0 p.1 p.2 t a.length (reads_cast (around a.half a.from a.v p.0 p.1 p.2 t) (around_natural a.half a.from a.v p.0 p.1 p.2 t) tt) c.if-length-east.false

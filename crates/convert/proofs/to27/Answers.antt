@@ -1,0 +1,7 @@
+use Rattle.figures.proofs.Laws.{refused_first}
+use Rattle.convert.specs.Convert.{to27}
+use Rattle.convert.proofs.to27.Goals as goal
+
+pub returns-in-Refused : goal.returns-in-Refused
+unfolding to27
+returns-in-Refused c = refused_first _ c.in-Refused.ensures
