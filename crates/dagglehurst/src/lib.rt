@@ -1,5 +1,7 @@
 // The library for other languages: numbers and slices only, and one number as the answer (reply.rt). include/dagglehurst.h says what each
 // function does. A grid is a header, as a slice of six numbers, and its two node slices.
+#![tactic(auto)]
+
 mod memory;
 mod numbers;
 mod pieces;

@@ -1,4 +1,6 @@
 // A list as far as it has come: the line whose newline has not come yet, and the totals.
+#![tactic(auto)]
+
 ghost use Rattle.std.specs.Prelude.{◌≡◌, [], ◌++◌, take};
 ghost use Rattle.writing.specs.Writing.{Wrote};
 ghost use Rattle.requests.specs.Requests.{request_in, asked_outcome};
@@ -8,7 +10,7 @@ use requests::{Asked, Reply};
 use slices::least;
 use writing::{Written, write_text};
 
-#[derive(Drop)]
+#[derive(Clone, Copy)]
 pub struct Listing {
     // The first bytes of the line that has not ended, and how many. 65 stand for every line above 64 bytes.
     held: [u8; 65],
@@ -17,7 +19,7 @@ pub struct Listing {
 }
 
 // How many lines were answered, and how many were refused.
-#[derive(Drop)]
+#[derive(Clone, Copy)]
 pub struct Totals {
     pub answered: i64,
     pub refused: i64,
@@ -100,13 +102,13 @@ impl Totals {
     {
         if reply.is_answer() {
             return Totals {
-                answered: one_more_lem(self.answered),
+                answered: one_more(self.answered),
                 refused: self.refused,
             };
         }
         Totals {
             answered: self.answered,
-            refused: one_more_lem(self.refused),
+            refused: one_more(self.refused),
         }
     }
 
@@ -119,7 +121,7 @@ impl Totals {
 }
 
 // One line more. The total stays at the greatest number there is.
-fn one_more_lem(x: i64) -> i64
+fn one_more(x: i64) -> i64
     ensures { result ≡ one_more x }
 {
     if x < 9_223_372_036_854_775_807 {

@@ -3,13 +3,12 @@ use Prim.Native.Nat.{ℕ, zero, suc, ◌+◌, ◌-◌, ◌*◌, ◌≤◌, ◌<�
 use mathlib.Core.Path.{◌≡◌, refl, sym, ap, ◌∙◌}
 use mathlib.Core.List.{List, [], ◌∷◌, ◌++◌}
 use native.Mathlib.Omega.{arith}
-use native.Mathlib.Nat.{le_refl}
 use native.Mathlib.Numerals.{add-one}
 use borrow.Rule.Slice.PartMut.{mid_of}
 use lib.IntN.{ℤ, pos}
 use lib.ListN.{length, take, drop, get_or, set, length-set, length-drop}
-use lib.Seq.{get_or-set_same, get_or-set_other, take-add, take_all}
-use Rattle.bytes.specs.Bytes.{slice, index_of}
+use lib.Seq.{get_or-set_same, get_or-set_other, take-add}
+use Rattle.slices.specs.Places.{index_of}
 use Rattle.figures.specs.Outcome.{Outcome, answered, refused}
 use Rattle.lines.specs.Text.{newline}
 use Rattle.convert.specs.Batch.{way_to83, way_to27}
@@ -97,13 +96,13 @@ read_none s text ways points h = record {
 }
 
 module _ {s : Listing} (text : List ℕ) {ways : List ℕ} {points : List ℤ} {line : Listing} {k taken end : ℕ}
-    (f : ReadSoFar s text ways points line k taken) (found : end ≡ taken + index_of newline (slice taken (length text) text)) where
+    (f : ReadSoFar s text ways points line k taken) (found : end ≡ taken + index_of newline (drop taken text)) where
   back : List ℕ
   back = drop taken text
 
   next_end : end ≡ taken + index_of newline back
-  unfolding slice back
-  next_end = found ∙ ap (λ l. taken + index_of newline (drop taken l)) (take_all (length text) text (le_refl (length text)))
+  unfolding back
+  next_end = found
 
   -- no further line ends
   pub read_end : length text ≤ end → BatchRead s text ways points (record { lines = k; taken = taken })

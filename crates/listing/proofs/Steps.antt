@@ -8,7 +8,7 @@ use native.Mathlib.Nat.{le_refl, le_of_suc-le-suc}
 use lib.Dec.{eqb}
 use lib.ListN.{length, take}
 use lib.Seq.{take_all}
-use Rattle.bytes.specs.Bytes.{index_after, index_of}
+use Rattle.slices.specs.Places.{index_after, index_of}
 use Rattle.laws.specs.Logic.{either_way}
 use Rattle.writing.proofs.Laws.{put_nothing}
 use Rattle.lines.specs.Text.{newline}

@@ -7,7 +7,7 @@ use native.Mathlib.Omega.{arith}
 use borrow.Author.Tests.{ne_eqb}
 use lib.Dec.{eqb, lt→ltb}
 use lib.ListN.{length, take, length-append}
-use lib.IntN.{ℤ, pos}
+use lib.IntN.{pos}
 use lib.Signed.{◌<ℤ◌}
 use mir.Syntax.{w64}
 use mir.Val.{to_z}

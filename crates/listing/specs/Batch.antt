@@ -1,7 +1,7 @@
 -- A batch of request lines side by side: their ways and their numbers, as `convert` takes them; their answers and the numbers of their
 -- refusals, as it answers them.
 use Rattle.std.specs.Prelude.{ℕ, zero, suc, ◌+◌, ◌*◌, ◌≤◌, ◌<◌, ◌≡◌, cond, List, [], ◌∷◌, ◌++◌, eqb, length, take, get_or, set, ℤ, pos}
-use Rattle.bytes.specs.Bytes.{index_of}
+use Rattle.slices.specs.Places.{index_of}
 use Rattle.figures.specs.Outcome.{Outcome, answered, refused}
 use Rattle.figures.specs.Points.{point27, point83}
 use Rattle.figures.specs.declared.Point27.{Point27}

@@ -1,4 +1,6 @@
 // The list: one reply for each request line, for a whole text or as its bytes come.
+#![tactic(auto)]
+
 mod putting;
 mod reading;
 mod replying;
@@ -17,7 +19,7 @@ use requests::Reply;
 use writing::Written;
 
 // What a piece comes to: the list behind it, and the bytes that were written.
-#[derive(Drop)]
+#[derive(Clone, Copy)]
 pub struct Fed {
     pub list: Listing,
     pub written: Written,

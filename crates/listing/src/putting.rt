@@ -19,7 +19,7 @@ use slices::least;
 use writing::saturating_add;
 
 // How far a text was worked: the list behind it, how many of its bytes were read, and how many were written.
-#[derive(Drop)]
+#[derive(Clone, Copy)]
 pub(crate) struct Advance {
     pub list: Listing,
     pub taken: usize,

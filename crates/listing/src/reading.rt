@@ -17,7 +17,7 @@ pub(crate) const POINTS: usize = 2 * BATCH;
 pub(crate) const ANSWERS: usize = 4 * BATCH;
 
 // How many lines were read, and the bytes that they take.
-#[derive(Drop)]
+#[derive(Clone, Copy)]
 pub(crate) struct Batch {
     pub lines: usize,
     pub taken: usize,
@@ -32,7 +32,7 @@ pub(crate) fn read_batch(list: Listing, text: &[u8], ways: &mut [u8], points: &m
     let mut lines: usize = 0;
     let mut taken: usize = 0;
     while lines < BATCH {
-        let end = bytes::scan::find(text, taken, text.len(), b'\n');
+        let end = slices::find(text, taken, b'\n');
         if text.len() <= end {
             return Batch { lines, taken };
         }

@@ -12,7 +12,7 @@ use slices::{least, number_at};
 use writing::saturating_add;
 
 // The totals behind some replies, and how many bytes were written.
-#[derive(Drop)]
+#[derive(Clone, Copy)]
 pub(crate) struct Replied {
     pub totals: Totals,
     pub bytes: usize,

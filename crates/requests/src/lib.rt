@@ -1,4 +1,6 @@
 // Request lines, what they ask, and the lines that reply to them.
+#![tactic(auto)]
+
 mod replies;
 mod words;
 
@@ -8,7 +10,7 @@ ghost use Rattle.requests.specs.Requests.{asked_outcome, request_in};
 use convert::Shifted;
 use figures::{Point27, Point83, Refusal};
 
-#[derive(Drop)]
+#[derive(Clone, Copy)]
 pub enum Request {
     // The NAD 83 answer of a NAD 27 point.
     To83(Point27),
@@ -17,7 +19,7 @@ pub enum Request {
 }
 
 // What a line is.
-#[derive(Drop)]
+#[derive(Clone, Copy)]
 pub enum Asked {
     Request(Request),
     // 1. A request line is refused by its number alone, so it has no place: 0.
@@ -25,7 +27,7 @@ pub enum Asked {
 }
 
 // A line of the list.
-#[derive(Drop)]
+#[derive(Clone, Copy)]
 pub enum Reply {
     // The number of nodes of the grid.
     Sheet(i64),
