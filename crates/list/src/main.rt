@@ -1,7 +1,10 @@
 // The list program: the requests on standard input, over the grid in the current folder's sheet.txt. It is held to document 01's
 // example: the bulletin's cell, five request lines, and the list of replies.
-use libc::STDIN_FILENO;
+#![tactic(auto)]
 
-fn main() {
-    list_io::run(b"sheet.txt", STDIN_FILENO);
+use list_io::Stopped;
+
+fn main(rt: HostRuntime) -> Result<(), Stopped> {
+    let mut requests = rt.stdin();
+    list_io::run(&rt, b"sheet.txt", &mut requests)
 }

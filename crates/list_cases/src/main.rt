@@ -5,8 +5,6 @@
 //     ties                shifts halfway between two whole numbers, each way from zero: the even one is answered, and taken back
 //     meridian            a grid from 179 E to 179 W: points on either side of the 180th meridian and their answers, there and back, and
 //                         longitudes outside their range
-//     order               a grid as steep as the checks allow, whose shifts fall northward and eastward: the answers of neighbours keep their
-//                         points' order
 //     damaged_lines       lines of 64, 65 and 40,000 bytes, the last longer than four blocks, empty lines, a hundred of them in a row,
 //                         bytes that are no text, a carriage return, a last line without its newline, and good lines between them
 //     refused_sheet       a grid whose header breaks rule 3 (dlat=900001): the refusal alone, whatever was asked
@@ -17,41 +15,62 @@
 //     folder_for_sheet    sheet.txt is a folder: it opens, and cannot be read
 //     longest_sheet       a sheet of 48,000 bytes, the longest file that is read: it is judged, and refused for what follows its end line
 //     long_sheet          a sheet of 48,001 bytes, one more than is read
+#![tactic(auto)]
+
 use script::text::{piece, put_all};
+use std::env::{Env, FillError};
+use std::rt::Files;
+use std::{fmt, fs, io, str};
 
-fn main() {
-    let count = os::arg_count();
-    let mut k: usize = 1;
-    while k < count {
-        case(k);
-        k += 1;
+// The longest path.
+const PATH: usize = 4_096;
+
+fn main(rt: HostRuntime) -> io::Result<()> {
+    for k in 1..usize::MAX {
+        let mut name = [0u8; PATH];
+        match rt.arg(k, &mut name) {
+            Ok(n) => list_in(&rt, &name[..n])?,
+            Err(FillError::NotPresent) => break,
+            Err(FillError::TooLong) => rt.eprintln("the name of a folder is too long")?,
+        }
     }
+    Ok(())
 }
 
-fn case(k: usize) {
-    let mut name = io::buffer();
-    let n = os::arg(k, &mut name);
-    list_in(&name[..n]);
-}
-
-fn list_in(folder: &[u8]) {
-    io::write_all(1, folder);
-    io::write_all(1, b"\n");
-    let mut sheet = io::buffer();
-    let mut requests = io::buffer();
+// A folder whose requests cannot be opened or read is told on standard error, and the next one follows.
+fn list_in<R: Files + Print + Eprint>(rt: &R, folder: &[u8]) -> io::Result<()> {
+    rt.write_all(folder)?;
+    rt.write_all(b"\n")?;
+    let mut sheet = [0u8; PATH];
+    let mut requests = [0u8; PATH];
     let sheet_end = join(folder, b"/sheet.txt", &mut sheet);
     let requests_end = join(folder, b"/requests.txt", &mut requests);
-    let fd = os::open_read(piece(&requests, 0, requests_end));
-    if fd < 0 {
-        os::fail(folder);
-        return;
+    match open(rt, piece(&requests, 0, requests_end)) {
+        Ok(mut file) => match list_io::run(rt, piece(&sheet, 0, sheet_end), &mut file) {
+            Ok(()) => Ok(()),
+            Err(why) => tell(rt, folder, why),
+        },
+        Err(why) => tell(rt, folder, why),
     }
-    list_io::run(piece(&sheet, 0, sheet_end), fd);
-    libc::close(fd);
 }
 
 // A folder's name and then a file's, in `path`. Answers its length.
 fn join<'a>(folder: &'a [u8], file: &'a [u8], path: &mut [u8]) -> usize {
     let n = put_all(path, 0, folder);
     put_all(path, n, file)
+}
+
+// A path has to be text.
+fn open<R: Files>(rt: &R, path: &[u8]) -> io::Result<R::File> {
+    match str::from_utf8(path) {
+        Ok(path) => fs::open(rt, path),
+        Err(_) => Err(io::Error::from(io::ErrorKind::InvalidInput)),
+    }
+}
+
+fn tell<R: Eprint, D: fmt::Display + Drop>(rt: &R, folder: &[u8], why: D) -> io::Result<()> {
+    match str::from_utf8(folder) {
+        Ok(folder) => rt.eprintln(format_args!("{folder}: {why}")),
+        Err(_) => rt.eprintln(format_args!("a folder whose name is no text: {why}")),
+    }
 }

@@ -1,21 +1,23 @@
-// The sitting: request lines from a descriptor, and a reply to each as soon as it has ended.
+// The sitting: request lines from a reader, and a reply to each as soon as it has ended.
+use super::Stopped;
 use super::output::put;
 use grid::Header;
 use list_state::Listing;
 use requests::Reply;
+use std::io::Read;
 
 // What follows a turn.
-#[derive(Drop)]
+#[derive(Clone, Copy)]
 enum Next {
     // Another turn.
     Turn,
     // The totals: the input has ended.
     Totals,
-    // Nothing: a read or a write has failed.
+    // Nothing: the list was refused.
     Nothing,
 }
 
-#[derive(Drop)]
+#[derive(Clone, Copy)]
 struct Turned {
     pub list: Listing,
     pub next: Next,
@@ -27,25 +29,46 @@ const BLOCK: usize = 65_536;
 // Room for the longest line in reply to each byte of a block: the replies to a block always fit.
 const ROOM: usize = Reply::MAX_TEXT * BLOCK;
 
-pub(crate) fn serve<'a>(requests: i32, h: Header, lat: &'a [i64], lon: &'a [i64]) {
+pub(crate) fn serve<'a, R: Print, I: Read>(
+    rt: &R,
+    requests: &mut I,
+    h: Header,
+    lat: &'a [i64],
+    lon: &'a [i64],
+) -> Result<(), Stopped> {
     let mut room = [0u8; ROOM];
-    serve_in(requests, h, lat, lon, &mut room);
+    serve_in(rt, requests, h, lat, lon, &mut room)
 }
 
-fn serve_in<'a>(requests: i32, h: Header, lat: &'a [i64], lon: &'a [i64], room: &mut [u8]) {
+fn serve_in<'a, R: Print, I: Read>(
+    rt: &R,
+    requests: &mut I,
+    h: Header,
+    lat: &'a [i64],
+    lon: &'a [i64],
+    room: &mut [u8],
+) -> Result<(), Stopped> {
     let begun = listing::begin(h, lat, lon, room);
-    if put(begun, room) {
-        take_turns(requests, h, lat, lon, room);
+    if put(rt, begun, room)? {
+        return take_turns(rt, requests, h, lat, lon, room);
     }
+    Ok(())
 }
 
 // A proved loop has to end, and nothing says that the input does. So the loop counts its turns down, from a number that no run
 // uses up.
-fn take_turns<'a>(requests: i32, h: Header, lat: &'a [i64], lon: &'a [i64], room: &mut [u8]) {
+fn take_turns<'a, R: Print, I: Read>(
+    rt: &R,
+    requests: &mut I,
+    h: Header,
+    lat: &'a [i64],
+    lon: &'a [i64],
+    room: &mut [u8],
+) -> Result<(), Stopped> {
     let mut list = Listing::new();
     let mut turns = u64::MAX;
     while turns > 0 {
-        let turned = take_turn(list, requests, h, lat, lon, room);
+        let turned = take_turn(list, rt, requests, h, lat, lon, room)?;
         list = turned.list;
         let next = turned.next;
         match next {
@@ -54,48 +77,45 @@ fn take_turns<'a>(requests: i32, h: Header, lat: &'a [i64], lon: &'a [i64], room
             }
             Next::Totals => {
                 let totals = listing::finish(list, room);
-                put(totals, room);
-                return;
+                put(rt, totals, room)?;
+                return Ok(());
             }
             Next::Nothing => {
-                return;
+                return Ok(());
             }
         }
     }
+    Ok(())
 }
 
 // One read, and the replies to the lines that end in it.
-fn take_turn<'a>(
+fn take_turn<'a, R: Print, I: Read>(
     list: Listing,
-    requests: i32,
+    rt: &R,
+    requests: &mut I,
     h: Header,
     lat: &'a [i64],
     lon: &'a [i64],
     room: &mut [u8],
-) -> Turned {
+) -> Result<Turned, Stopped> {
     let mut block = [0u8; BLOCK];
-    let got = libc::read(requests, &mut block);
-    if got < 0 {
-        os::fail(b"standard input");
-        return Turned {
-            list,
-            next: Next::Nothing,
-        };
-    }
-    if got == 0 {
-        return Turned {
+    let n = match requests.read(&mut block) {
+        Ok(n) => n,
+        Err(e) => return Err(Stopped::Input(e)),
+    };
+    if n == 0 {
+        return Ok(Turned {
             list,
             next: Next::Totals,
-        };
+        });
     }
-    let n = io::count(got, &block);
     let fed = listing::feed(list, h, lat, lon, &block[..n], room);
     let list = fed.list;
     let written = fed.written;
-    let next = if put(written, room) {
+    let next = if put(rt, written, room)? {
         Next::Turn
     } else {
         Next::Nothing
     };
-    Turned { list, next }
+    Ok(Turned { list, next })
 }

@@ -2,17 +2,18 @@
 ghost use Rattle.std.specs.Prelude.{◌≡◌};
 ghost use Rattle.script.specs.Tally.{fresh, counted_in};
 
+use super::report::Report;
 use super::tally::Tally;
 use super::text::{piece, rest};
 
 // Where a line stands in a script.
-#[derive(Drop)]
+#[derive(Clone, Copy)]
 pub struct Line {
     pub from: usize,
     pub to: usize,
 }
 
-#[derive(Drop)]
+#[derive(Clone, Copy)]
 pub struct Groups {
     // The line of the group under way; an empty one before the first group.
     line: Line,
@@ -32,10 +33,10 @@ impl Groups {
     }
 
     // Prints the line of the group under way, and begins the one of this line.
-    pub fn begin(self, script: &[u8], line: Line) -> Groups
+    pub fn begin<R: Print>(self, script: &[u8], line: Line, report: &mut Report<R>) -> Groups
         ensures { (result.group ≡ fresh) × (result.all ≡ self.all) }
     {
-        self.print_group(script);
+        self.print_group(script, report);
         let all = self.all;
         Groups {
             line,
@@ -59,21 +60,21 @@ impl Groups {
     }
 
     // Prints the last lines. Answers how many cases came out otherwise.
-    pub fn finish(self, script: &[u8]) -> u64
+    pub fn finish<R: Print>(self, script: &[u8], report: &mut Report<R>) -> u64
         ensures { result ≡ self.all.wrong }
     {
-        self.print_group(script);
+        self.print_group(script, report);
         let all = self.all;
-        all.print(b"all");
+        all.print(b"all", report);
         all.wrong
     }
 
-    fn print_group(self, script: &[u8]) {
+    fn print_group<R: Print>(self, script: &[u8], report: &mut Report<R>) {
         let line = self.line;
         let text = piece(script, line.from, line.to);
         if 0 < text.len() {
             let group = self.group;
-            group.print(rest(text, 6));
+            group.print(rest(text, 6), report);
         }
     }
 }

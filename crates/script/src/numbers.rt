@@ -4,20 +4,20 @@ ghost use Rattle.std.specs.Prelude.{◌≡◌, ◌≤◌, length};
 use super::text::{after, byte_at};
 
 // A number, and the place behind it.
-#[derive(Drop)]
+#[derive(Clone, Copy)]
 pub struct Count {
     pub value: usize,
     pub next: usize,
 }
 
-#[derive(Drop)]
+#[derive(Clone, Copy)]
 pub struct Whole {
     pub value: i64,
     pub next: usize,
 }
 
 // Two numbers with a byte between, and the place behind them.
-#[derive(Drop)]
+#[derive(Clone, Copy)]
 pub struct Pair {
     pub first: usize,
     pub second: usize,
@@ -47,7 +47,7 @@ pub fn unsigned(s: &[u8], from: usize) -> Count
     Count { value, next: i }
 }
 
-fn is_digit_lem(byte: u8) -> bool {
+fn is_digit(byte: u8) -> bool {
     if byte < b'0' { false } else { byte <= b'9' }
 }
 

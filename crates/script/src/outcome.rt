@@ -3,10 +3,11 @@ ghost use Rattle.std.specs.Prelude.{◌≡◌};
 ghost use Rattle.figures.specs.Refusal.{number_of, place_of};
 ghost use Rattle.script.specs.Outcome.{agrees};
 
+use super::report::Report;
 use figures::Refusal;
 
 // The number and the place of the refusal, or 0 and 0. `same` says whether everything else is as it should be.
-#[derive(Drop)]
+#[derive(Clone, Copy)]
 pub struct Outcome {
     pub number: usize,
     pub place: usize,
@@ -35,17 +36,24 @@ impl Outcome {
     }
 
     // Whether a case came to this number and place, and a line for it where it did not.
-    pub fn agrees(self, line: &[u8], number: usize, place: usize) -> bool
+    pub fn agrees<R: Print>(
+        self,
+        line: &[u8],
+        number: usize,
+        place: usize,
+        report: &mut Report<R>,
+    ) -> bool
         ensures { result ≡ agrees self number place }
     {
         let right = self.is(number, place);
         if !right {
-            self.print(line);
+            self.print(line, report);
         }
         right
     }
 
     // Whether a case came to this number and place.
+    #[tactic(auto, unfolding(crate::specs::Outcome::agrees))]
     pub fn is(self, number: usize, place: usize) -> bool
         ensures { result ≡ agrees self number place }
     {
@@ -58,13 +66,13 @@ impl Outcome {
         false
     }
 
-    fn print(self, line: &[u8]) {
-        io::write_all(1, b"wrong ");
-        io::write_all(1, line);
-        io::write_all(1, b" came=");
-        io::print_decimal(1, self.number as u64);
-        io::write_all(1, b",");
-        io::print_decimal(1, self.place as u64);
-        io::write_all(1, b"\n");
+    fn print<R: Print>(self, line: &[u8], report: &mut Report<R>) {
+        report.text(b"wrong ");
+        report.text(line);
+        report.text(b" came=");
+        report.number(self.number as u64);
+        report.text(b",");
+        report.number(self.place as u64);
+        report.text(b"\n");
     }
 }

@@ -2,7 +2,9 @@
 ghost use Rattle.std.specs.Prelude.{◌≡◌};
 ghost use Rattle.script.specs.Tally.{one_more, fresh, counted_in};
 
-#[derive(Drop)]
+use super::report::Report;
+
+#[derive(Clone, Copy)]
 pub struct Tally {
     pub cases: u64,
     pub wrong: u64,
@@ -18,7 +20,7 @@ impl Tally {
     pub(crate) fn counted(self, right: bool) -> Tally
         ensures { result ≡ counted_in right self }
     {
-        let cases = one_more_lem(self.cases);
+        let cases = one_more(self.cases);
         if right {
             return Tally {
                 cases,
@@ -27,23 +29,23 @@ impl Tally {
         }
         Tally {
             cases,
-            wrong: one_more_lem(self.wrong),
+            wrong: one_more(self.wrong),
         }
     }
 
     // Prints a group's line.
-    pub(crate) fn print(self, name: &[u8]) {
-        io::write_all(1, name);
-        io::write_all(1, b": cases=");
-        io::print_decimal(1, self.cases);
-        io::write_all(1, b" wrong=");
-        io::print_decimal(1, self.wrong);
-        io::write_all(1, b"\n");
+    pub(crate) fn print<R: Print>(self, name: &[u8], report: &mut Report<R>) {
+        report.text(name);
+        report.text(b": cases=");
+        report.number(self.cases);
+        report.text(b" wrong=");
+        report.number(self.wrong);
+        report.text(b"\n");
     }
 }
 
 // The count stops far above the number of cases, so that it cannot overflow.
-fn one_more_lem(n: u64) -> u64
+fn one_more(n: u64) -> u64
     ensures { result ≡ one_more n }
 {
     if n < 1_000_000 {

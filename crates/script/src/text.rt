@@ -1,6 +1,6 @@
 // Bytes of a text, and pieces of it.
 ghost use Rattle.std.specs.Prelude.{◌≡◌, ◌+◌, ◌-◌, ◌≤◌, max, length, get_or, set, take, drop};
-ghost use Rattle.bytes.specs.Bytes.{index_of};
+ghost use Rattle.slices.specs.Places.{index_of};
 
 // A byte, or 0 behind the end.
 pub fn byte_at(s: &[u8], i: usize) -> u8
@@ -49,10 +49,7 @@ pub fn rest(s: &[u8], from: usize) -> &[u8]
 pub fn find(s: &[u8], from: usize, byte: u8) -> usize
     ensures { (result ≡ from + index_of byte (drop from s.now)) × (result ≤ max from (length s.now)) }
 {
-    if from < s.len() {
-        return bytes::scan::find(s, from, s.len(), byte);
-    }
-    from
+    slices::find(s, from, byte)
 }
 
 // One byte more, if there is room. The answer is the next place.

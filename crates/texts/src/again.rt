@@ -1,11 +1,12 @@
 // A text that is accepted, read and written again.
 use super::substring::stands;
+use script::input::room;
 use script::text::{byte_at, put};
 use writing::Written;
 
 // Whether it comes again, with the byte behind it as it was, and is refused where the room is one byte too short.
 pub(crate) fn comes_again(text: &[u8]) -> bool {
-    let mut room = io::large_buffer();
+    let mut room = room();
     if fits(text, &mut room) {
         return refused_short(text, &mut room);
     }

@@ -3,12 +3,14 @@ use super::edits::Edited;
 use super::{again, edits, reading};
 use script::expansion::expand;
 use script::groups::{Groups, Line};
+use script::input::room;
 use script::numbers::unsigned_pair;
 use script::outcome::Outcome;
+use script::report::Report;
 use script::text::{after, byte_at, find, piece, rest};
 
 // Where a run of a script stands.
-#[derive(Drop)]
+#[derive(Clone, Copy)]
 pub(crate) struct Run {
     groups: Groups,
     // The length of the sheet's text, and those of the slices that are lent.
@@ -38,9 +40,9 @@ impl Run {
         self
     }
 
-    fn begin(mut self, script: &[u8], line: Line) -> Run {
+    fn begin<R: Print>(mut self, script: &[u8], line: Line, report: &mut Report<R>) -> Run {
         let groups = self.groups;
-        self.groups = groups.begin(script, line);
+        self.groups = groups.begin(script, line, report);
         self
     }
 
@@ -50,17 +52,24 @@ impl Run {
         self
     }
 
-    pub(crate) fn finish(self, script: &[u8]) {
+    pub(crate) fn finish<R: Print>(self, script: &[u8], report: &mut Report<R>) {
         let groups = self.groups;
-        groups.finish(script);
+        groups.finish(script, report);
     }
 }
 
 // One line. Its first byte says what it is.
-pub(crate) fn line(run: Run, script: &[u8], place: Line, sheet: &mut [u8], text: &mut [u8]) -> Run {
+pub(crate) fn line<R: Print>(
+    run: Run,
+    script: &[u8],
+    place: Line,
+    sheet: &mut [u8],
+    text: &mut [u8],
+    report: &mut Report<R>,
+) -> Run {
     let line = piece(script, place.from, place.to);
     match byte_at(line, 0) {
-        b'g' => run.begin(script, place),
+        b'g' => run.begin(script, place, report),
         b's' => run.with_sheet(expand(rest(line, 6), sheet, 0)),
         b'r' => {
             let room = unsigned_pair(line, 5);
@@ -68,31 +77,43 @@ pub(crate) fn line(run: Run, script: &[u8], place: Line, sheet: &mut [u8], text:
         }
         b'#' => run,
         0 => run,
-        _ => run.counted(case(run, line, piece(sheet, 0, run.sheet), text)),
+        _ => run.counted(case(run, line, piece(sheet, 0, run.sheet), text, report)),
     }
 }
 
-fn case<'a>(run: Run, line: &'a [u8], sheet: &'a [u8], text: &mut [u8]) -> bool {
+fn case<'a, R: Print>(
+    run: Run,
+    line: &'a [u8],
+    sheet: &'a [u8],
+    text: &mut [u8],
+    report: &mut Report<R>,
+) -> bool {
     let words = rest(line, 3);
     let blank = find(words, 0, b' ');
     let edit = rest(words, after(words, blank));
     match edits::edit(edit, sheet, text) {
-        Edited::Missing => Outcome::answered(false).agrees(line, 0, 0),
-        Edited::Text(n) => judge(run, line, piece(words, 0, blank), piece(text, 0, n)),
+        Edited::Missing => Outcome::answered(false).agrees(line, 0, 0, report),
+        Edited::Text(n) => judge(run, line, piece(words, 0, blank), piece(text, 0, n), report),
     }
 }
 
 // Reads a text. `want` is how it should be refused, or what it should hold.
-fn judge<'a>(run: Run, line: &'a [u8], want: &'a [u8], text: &'a [u8]) -> bool {
-    let mut space = io::large_buffer();
+fn judge<'a, R: Print>(
+    run: Run,
+    line: &'a [u8],
+    want: &'a [u8],
+    text: &'a [u8],
+    report: &mut Report<R>,
+) -> bool {
+    let mut space = room();
     let n = expand(want, &mut space, 0);
     let mut came = reading::read(text, piece(&space, 0, n), run.lat, run.lon);
     if byte_at(line, 0) == b'o' {
         if !again::comes_again(text) {
             came.same = false;
         }
-        return came.agrees(line, 0, 0);
+        return came.agrees(line, 0, 0, report);
     }
     let why = unsigned_pair(want, 0);
-    came.agrees(line, why.first, why.second)
+    came.agrees(line, why.first, why.second, report)
 }

@@ -3,7 +3,7 @@ use super::substring::place_of;
 use script::expansion::expand;
 use script::text::{after, byte_at, find, piece, put_all, rest};
 
-#[derive(Drop)]
+#[derive(Clone, Copy)]
 pub(crate) enum Edited {
     // The length of the text.
     Text(usize),
@@ -14,7 +14,7 @@ pub(crate) enum Edited {
 // Writes the sheet with an edit: `OLD>NEW` puts NEW for the first OLD, and after `OLD|NEW` the text ends there.
 pub(crate) fn edit<'a>(edit: &'a [u8], sheet: &'a [u8], text: &mut [u8]) -> Edited {
     let middle = sign(edit);
-    let mut space = io::buffer();
+    let mut space = [0u8; 4_096];
     let n = expand(piece(edit, 0, middle), &mut space, 0);
     let old = piece(&space, 0, n);
     let k = place_of(sheet, old);

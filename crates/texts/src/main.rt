@@ -11,6 +11,8 @@
 // The edit `OLD>NEW` puts NEW for the first OLD of the sheet, and after `OLD|NEW` the text ends there. In a text `\n`, `\r`, `\t`,
 // `\0` and `\f` are a newline, a carriage return, a tab, a 0 and a 255, and `[PIECE*TIMES]` is a piece that comes so many times.
 // Empty lines and lines that start with `#` are passed over.
+#![tactic(auto)]
+
 mod again;
 mod cases;
 mod edits;
@@ -20,24 +22,30 @@ mod substring;
 
 use cases::Run;
 use script::groups::Line;
+use script::input::{read_full, room};
+use script::report::Report;
 use script::text::find;
+use std::io;
 
-fn main() {
-    let mut space = io::large_buffer();
-    let mut sheet = io::large_buffer();
-    let mut text = io::large_buffer();
-    let n = io::read_full(0, &mut space);
-    run(&space[..n], &mut sheet, &mut text);
+fn main(rt: HostRuntime) -> io::Result<()> {
+    let mut space = room();
+    let mut sheet = room();
+    let mut text = room();
+    let mut input = rt.stdin();
+    let n = read_full(&mut input, &mut space)?;
+    let mut report = Report::new(&rt);
+    run(&space[..n], &mut sheet, &mut text, &mut report);
+    report.end()
 }
 
 // Runs a script, with room for a sheet and for a text that is made of it.
-fn run(script: &[u8], sheet: &mut [u8], text: &mut [u8]) {
+fn run<R: Print>(script: &[u8], sheet: &mut [u8], text: &mut [u8], report: &mut Report<R>) {
     let mut run = Run::new();
     let mut from: usize = 0;
     while from < script.len() {
         let to = find(script, from, b'\n');
-        run = cases::line(run, script, Line { from, to }, sheet, text);
+        run = cases::line(run, script, Line { from, to }, sheet, text, report);
         from = to + 1;
     }
-    run.finish(script);
+    run.finish(script, report);
 }

@@ -7,7 +7,7 @@ use script::outcome::Outcome;
 use script::text::after;
 
 // The numbers that an accepted sheet should hold, compared up to `next`. `same` says whether they are the same.
-#[derive(Drop)]
+#[derive(Clone, Copy)]
 struct Compared {
     next: usize,
     same: bool,
