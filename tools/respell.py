@@ -123,9 +123,6 @@ def main():
             with open(p, "w", encoding="utf-8") as f:
                 f.write(new)
     print(changed, "files")
-    with open("/tmp/respelled.txt", "w") as f:
-        for n in sorted(mapping):
-            f.write(f"{n} {mapping[n]}\n")
 
 
 main()
