@@ -1,28 +1,10 @@
-use Rattle.std.proofs.Common.{FitsSigned, Fits, w64, nat_abs, T, leb, leb→le, arith, ℕ, ℤ, ◌≤◌, ◌≡◌, true, pos, ◌+ℤ◌, ◌-ℤ◌, ◌*ℤ◌, ◌≤ℤ◌, sym}
-use Rattle.std.proofs.Math.Nat.{mul-le-mul_right}
-use Rattle.std.specs.Int.Signed.{non_neg}
+use Rattle.std.proofs.Common.{arith, ℕ, ℤ, ◌≤◌, ◌≡◌, true, pos, ◌+ℤ◌, ◌-ℤ◌, ◌*ℤ◌, ◌≤ℤ◌, sym}
 use Rattle.laws.specs.Parts.{ints}
-use Rattle.laws.specs.Expr.{Expr, machine, need, linear, bounded, nat, lit, ◌⊕◌, ◌⊖◌, ◌⊛◌, ⊝}
+use Rattle.laws.specs.Expr.{Expr, need, linear, bounded, nat, lit, ◌⊕◌, ◌⊖◌, ◌⊛◌, ⊝}
 use Rattle.laws.specs.Tests.{lt_yes, lt_no, need_cast, reads_cast}
 use Rattle.laws.specs.Circle.{names, Named, named, named_within, distance_ahead, distance-around}
+use Rattle.convert.proofs.Apart.{apart_fits, turned_fits, turned_cast}
 use Rattle.order.proofs.standing.distance.Goals as goal
-
--- the way from one place to another, by their names and with turns added, fits whichever they are
-module _ (half : ℕ) (x y : ℤ) (few : half ≤ 64800000000) (n : Named half x) (k : Named half y) where
-  apart_fits : FitsSigned w64 (machine x -ℤ machine y)
-  apart_fits = need (bounded (named_within n few) ⊖ bounded (named_within k few)) tt
-
-  module _ (m : ℕ) (some : T (leb 2 m)) (most : T (leb m 100)) where
-    abbrev turned : Expr (x -ℤ y +ℤ pos m *ℤ pos half)
-    turned = bounded (named_within n few) ⊖ bounded (named_within k few) ⊕ nat (leb→le _ _ most) ⊛ nat few
-
-    turned_fits : FitsSigned w64 turned.top
-    turned_fits = need turned tt
-
-    turned_cast : T (non_neg turned.got) × Fits w64 (nat_abs turned.got)
-    turned_cast =
-        let t = mul-le-mul_right half (leb→le _ _ some) in
-        need_cast turned (omega (arith, ints, n, k, t, linear turned, linear (⊝ (nat few)))) tt
 
 module _ (half : ℕ) (from v : ℤ) (few : half ≤ 64800000000) (m : names half from ≡ true) (n : names half v ≡ true) where
   from_named : Named half from
