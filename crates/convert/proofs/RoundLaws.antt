@@ -6,8 +6,7 @@ use mathlib.Core.Bool.{Bool, true, false, cond}
 use Rattle.laws.specs.Logic.{not_both}
 use Rattle.figures.specs.Outcome.{answered, refused}
 use Rattle.figures.specs.Same.{same83}
-use Rattle.figures.specs.declared.Point27.{Point27}
-use Rattle.figures.specs.declared.Point83.{Point83}
+use Rattle.figures.specs.Points.{Point27, Point83}
 use Rattle.figures.proofs.SameLaws.{equal83, same83_refl}
 use Rattle.grid.specs.Grid.{Grid}
 use Rattle.grid.specs.Check.{Passes}

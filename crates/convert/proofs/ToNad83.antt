@@ -4,7 +4,7 @@ use mathlib.Core.Path.{◌≡◌, sym, ap, ◌∙◌}
 use mathlib.Core.Bool.{true}
 use Rattle.laws.specs.Parts.{Within}
 use Rattle.figures.specs.Outcome.{answered, refused}
-use Rattle.figures.specs.declared.Point27.{Point27}
+use Rattle.figures.specs.Points.{Point27}
 use Rattle.grid.specs.Grid.{Grid}
 use Rattle.grid.specs.Nodes.{max_shift}
 use Rattle.grid.specs.Rules.{shape}

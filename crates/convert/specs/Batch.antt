@@ -3,8 +3,7 @@
 use Rattle.std.specs.Prelude.{ℕ, zero, suc, ◌+◌, ◌*◌, cond, List, [], ltb, eqb, length, get_or, set, ℤ, pos}
 use Rattle.std.proofs.lemmas.List.Edits.{sets}
 use Rattle.figures.specs.Outcome.{Outcome, answered, refused, refusal, refuse_if, and_then, map_answer}
-use Rattle.figures.specs.Points.{point27, point83}
-use Rattle.figures.specs.declared.Point27.{Point27}
+use Rattle.figures.specs.Points.{Point27, point27, point83}
 use Rattle.grid.specs.Grid.{Grid}
 use Rattle.grid.specs.Check.{verdict}
 use Rattle.convert.specs.Convert.{to83, numbers83, numbers27, to27}

@@ -2,9 +2,7 @@
 use Rattle.std.specs.Prelude.{ℕ, ◌*◌, ◌/◌, ◌%◌, ◌<◌, ◌≡◌, true, ℤ, pos, ◌-ℤ◌, ◌*ℤ◌, ◌<ℤ◌}
 use Rattle.laws.specs.Circle.{distance, place_of}
 use Rattle.figures.specs.Outcome.{AnswerWith}
-use Rattle.figures.specs.Points.{half_turn83}
-use Rattle.figures.specs.declared.Point27.{Point27}
-use Rattle.figures.specs.declared.Point83.{Point83}
+use Rattle.figures.specs.Points.{Point27, Point83, half_turn83}
 use Rattle.grid.specs.Grid.{Nodes, Grid}
 use Rattle.grid.specs.Nodes.{node}
 use Rattle.grid.specs.Rules.{between, shape}

@@ -4,8 +4,7 @@ use Rattle.std.specs.Prelude.{ℕ, cond}
 use Rattle.bilinear.specs.Search.{iterate}
 use Rattle.figures.specs.Outcome.{Outcome, answered, refused}
 use Rattle.figures.specs.Same.{same83}
-use Rattle.figures.specs.declared.Point27.{Point27}
-use Rattle.figures.specs.declared.Point83.{Point83}
+use Rattle.figures.specs.Points.{Point27, Point83}
 use Rattle.grid.specs.Grid.{Grid}
 use Rattle.grid.specs.Rules.{shape}
 use Rattle.shift.specs.Shift.{component, raise}

@@ -4,8 +4,7 @@ use mathlib.Core.Bool.{true}
 use lib.IntN.{ℤ}
 use Rattle.laws.specs.Logic.{both, eq_z, eq_z_holds, eq_z_true}
 use Rattle.figures.specs.Same.{same_pair, same27, same83}
-use Rattle.figures.specs.declared.Point27.{Point27}
-use Rattle.figures.specs.declared.Point83.{Point83}
+use Rattle.figures.specs.Points.{Point27, Point83}
 
 pair_equal : {a b c d : ℤ} → same_pair a b c d ≡ true → (a ≡ c) × (b ≡ d)
 unfolding same_pair

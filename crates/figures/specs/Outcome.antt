@@ -1,6 +1,6 @@
 -- What a call comes to, in document 01's words: an answer, or a refusal by its number and place ("A refusal answers its number and
 -- place and nothing more"). Each enum that the code answers has a definition that takes it to this, and contracts speak through it.
-use Rattle.std.specs.Prelude.{ℕ, Bool, true, false}
+use Rattle.std.specs.Prelude.{ℕ, Bool, true, false, Result, Ok, Err}
 use Rattle.figures.specs.Refusal.{number_of, place_of}
 use Rattle.figures.specs.declared.Refusal.{Refusal}
 
@@ -10,6 +10,11 @@ pub data Outcome (A : Type 0) : Type 0 where
 
 abbrev pub refusal : {A : Type 0} → Refusal → Outcome A
 refusal w = refused (number_of w) (place_of w)
+
+-- what a `Result` of the code comes to
+abbrev pub outcome : {A : Type 0} → Result A Refusal → Outcome A
+outcome (Ok a) = answered a
+outcome (Err w) = refusal w
 
 -- the first refusal, or else the second outcome
 abbrev pub and_then : {A B : Type 0} → Outcome A → Outcome B → Outcome B

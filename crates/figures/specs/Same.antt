@@ -1,8 +1,7 @@
 -- Two points of one datum are the same if both coordinates are.
 use Rattle.std.specs.Prelude.{Bool, ◌&&◌, ℤ}
 use Rattle.laws.specs.Logic.{eq_z}
-use Rattle.figures.specs.declared.Point27.{Point27}
-use Rattle.figures.specs.declared.Point83.{Point83}
+use Rattle.figures.specs.Points.{Point27, Point83}
 
 unfoldable pub same_pair : (a b c d : ℤ) → Bool
 same_pair a b c d = eq_z a c && eq_z b d

@@ -1,95 +1,81 @@
 // The figures of the two datums, points of each, and the refusals.
 #![tactic(auto)]
 
-ghost use Rattle.std.specs.Prelude.{◌≡◌};
+ghost use Rattle.std.specs.Prelude.{◌≡◌, ℕ, ℤ};
 ghost use Rattle.figures.specs.Refusal.{number_of, place_of};
-ghost use Rattle.figures.specs.Points.{point27, point83};
-ghost use Rattle.figures.specs.Same.{same_pair, same27, same83};
+ghost use Rattle.figures.specs.Points.{half_turn27, half_turn83, nad27, nad83, point};
+
+// The figure of a datum: a coordinate, counted in the datum's own unit.
+pub trait Figure: Copy {
+    ghost figure: { ℤ → Self };
+
+    // Half of the circle of its longitudes. A longitude is a place on that circle, each named once: by a number from -HALF_TURN to
+    // HALF_TURN - 1.
+    const HALF_TURN: usize;
+
+    ghost HALF_TURN: { ℕ };
+
+    fn new(count: i64) -> Self
+        ensures { result ≡ figure count };
+}
 
 // A NAD 27 figure, in thousandths of an arc second.
-#[derive(Clone, Copy)]
+#[derive(Clone, Copy, Debug, PartialEq, Eq)]
 pub struct Nad27(pub i64);
 
 // A NAD 83 figure, in hundred-thousandths of an arc second.
-#[derive(Clone, Copy)]
+#[derive(Clone, Copy, Debug, PartialEq, Eq)]
 pub struct Nad83(pub i64);
 
-// A longitude is a place on a circle, each named once: by a number from -HALF_TURN to HALF_TURN - 1.
-impl Nad27 {
-    pub const HALF_TURN: usize = 648_000_000;
+impl Figure for Nad27 {
+    ghost figure = { nad27 };
+
+    const HALF_TURN: usize = 648_000_000;
+
+    ghost HALF_TURN = { half_turn27 };
+
+    fn new(count: i64) -> Nad27 {
+        Nad27(count)
+    }
 }
 
-impl Nad83 {
-    pub const HALF_TURN: usize = 64_800_000_000;
+impl Figure for Nad83 {
+    ghost figure = { nad83 };
+
+    const HALF_TURN: usize = 64_800_000_000;
+
+    ghost HALF_TURN = { half_turn83 };
+
+    fn new(count: i64) -> Nad83 {
+        Nad83(count)
+    }
 }
 
 // Latitude is positive north and longitude positive east, in both datums.
-#[derive(Clone, Copy)]
-pub struct Point27 {
-    pub lat: Nad27,
-    pub lon: Nad27,
+#[derive(Clone, Copy, Debug, PartialEq, Eq)]
+pub struct Point<F> {
+    pub lat: F,
+    pub lon: F,
 }
 
-#[derive(Clone, Copy)]
-pub struct Point83 {
-    pub lat: Nad83,
-    pub lon: Nad83,
-}
+pub type Point27 = Point<Nad27>;
 
-impl Point27 {
-    pub fn new(lat: i64, lon: i64) -> Point27
-        ensures { result ≡ point27 lat lon }
+pub type Point83 = Point<Nad83>;
+
+impl<F: Figure> Point<F> {
+    pub fn new(lat: i64, lon: i64) -> Point<F>
+        ensures { result ≡ point F.figure lat lon }
     {
-        Point27 {
-            lat: Nad27(lat),
-            lon: Nad27(lon),
+        Point {
+            lat: F::new(lat),
+            lon: F::new(lon),
         }
     }
-
-    pub fn same(self, other: Point27) -> bool
-        ensures { result ≡ same27 self other }
-    {
-        let lat = self.lat;
-        let lon = self.lon;
-        let other_lat = other.lat;
-        let other_lon = other.lon;
-        same_pair(lat.0, lon.0, other_lat.0, other_lon.0)
-    }
-}
-
-impl Point83 {
-    pub fn new(lat: i64, lon: i64) -> Point83
-        ensures { result ≡ point83 lat lon }
-    {
-        Point83 {
-            lat: Nad83(lat),
-            lon: Nad83(lon),
-        }
-    }
-
-    pub fn same(self, figure: Point83) -> bool
-        ensures { result ≡ same83 self figure }
-    {
-        let lat = self.lat;
-        let lon = self.lon;
-        let figure_lat = figure.lat;
-        let figure_lon = figure.lon;
-        same_pair(lat.0, lon.0, figure_lat.0, figure_lon.0)
-    }
-}
-
-fn same_pair(a: i64, b: i64, c: i64, d: i64) -> bool
-    ensures { result ≡ same_pair a b c d }
-{
-    if a != c {
-        return false;
-    }
-    b == d
 }
 
 // Why the answer is no: one variant for each row of document 01's table, and for each refusal that a request of document 02 adds, with the
 // place where that varies.
-#[derive(Clone, Copy)]
+#[derive(Clone, Copy, Debug, PartialEq, Eq)]
 pub enum Refusal {
     // 1: the line that is missing, extra or not of its form, from 1.
     Form(usize),

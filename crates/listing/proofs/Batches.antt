@@ -12,9 +12,7 @@ use lib.ListN.{length, take, get_or}
 use lib.Seq.{get_or-take, length-take-le}
 use Rattle.laws.specs.Logic.{either_way}
 use Rattle.figures.specs.Outcome.{Outcome, answered, refused, map_answer}
-use Rattle.figures.specs.Points.{point27, point83}
-use Rattle.figures.specs.declared.Point27.{Point27}
-use Rattle.figures.specs.declared.Point83.{Point83}
+use Rattle.figures.specs.Points.{Point27, Point83, point27, point83}
 use Rattle.grid.specs.Grid.{Grid}
 use Rattle.grid.specs.Check.{verdict, Passes}
 use Rattle.shift.specs.Sign.{sign_of}

@@ -3,8 +3,7 @@
 use Rattle.std.specs.Prelude.{ℕ, zero, suc, ◌+◌, ◌*◌, ◌≤◌, ◌<◌, ◌≡◌, cond, List, [], ◌∷◌, ◌++◌, eqb, length, take, get_or, set, ℤ, pos}
 use Rattle.slices.specs.Places.{index_of}
 use Rattle.figures.specs.Outcome.{Outcome, answered, refused}
-use Rattle.figures.specs.Points.{point27, point83}
-use Rattle.figures.specs.declared.Point27.{Point27}
+use Rattle.figures.specs.Points.{Point27, point27, point83}
 use Rattle.writing.specs.Writing.{Put}
 use Rattle.lines.specs.Text.{newline}
 use Rattle.shift.specs.Sign.{sign_of}

@@ -11,7 +11,7 @@ use Rattle.laws.specs.Parts.{pos_part, ints}
 use Rattle.laws.specs.Logic.{eq_z_holds, lt_z_true, lt_z_holds, lt_z_fails}
 use Rattle.laws.specs.Circle.{names_it}
 use Rattle.figures.specs.Outcome.{Outcome, answered, refused, and_then, map_answer}
-use Rattle.figures.specs.declared.Point27.{Point27}
+use Rattle.figures.specs.Points.{Point27}
 use Rattle.figures.proofs.Laws.{answer_not_refusal, same_answer}
 use Rattle.grid.specs.Grid.{Grid}
 use Rattle.grid.specs.Check.{Passes}

@@ -3,8 +3,7 @@ use Rattle.std.specs.Prelude.{Bool, cond}
 use Rattle.laws.specs.Logic.{eq_z}
 use Rattle.figures.specs.Outcome.{Outcome, answered, refused, refusal, and_then}
 use Rattle.figures.specs.declared.Nad27.{Nad27}
-use Rattle.figures.specs.declared.Point27.{Point27}
-use Rattle.figures.specs.declared.Point83.{Point83}
+use Rattle.figures.specs.Points.{Point27, Point83}
 use Rattle.grid.specs.Grid.{Grid}
 use Rattle.convert.specs.Convert.{to83}
 use Rattle.convert.specs.declared.Shifted.{Shifted}

@@ -1,10 +1,8 @@
 -- What the private functions ask of their arguments.
 use Rattle.std.specs.Prelude.{◌≡◌, true}
 use Rattle.laws.specs.Circle.{names}
-use Rattle.figures.specs.Points.{half_turn27, half_turn83}
+use Rattle.figures.specs.Points.{Point27, Point83, half_turn27, half_turn83}
 use Rattle.figures.specs.declared.Nad27.{Nad27}
-use Rattle.figures.specs.declared.Point27.{Point27}
-use Rattle.figures.specs.declared.Point83.{Point83}
 
 -- every longitude names a place on its circle
 pub record LongitudesNamed (west : Nad27) (p q : Point27) (a b : Point83) : Type 0 where

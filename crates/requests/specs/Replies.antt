@@ -4,7 +4,7 @@ use Rattle.laws.specs.Bytes.{bytes}
 use Rattle.figures.specs.Refusal.{number_of, place_of}
 use Rattle.figures.specs.Outcome.{Outcome, answered, refused}
 use Rattle.figures.specs.declared.Refusal.{Refusal}
-use Rattle.figures.specs.declared.Point27.{Point27}
+use Rattle.figures.specs.Points.{Point27}
 use Rattle.lines.specs.Text.{line}
 use Rattle.grid.specs.Grid.{Grid}
 use Rattle.convert.specs.Convert.{to83, numbers83, numbers27, to27}

@@ -5,8 +5,7 @@ use mathlib.Core.Bool.{Bool, true, false}
 use Rattle.laws.specs.Logic.{not_both}
 use Rattle.figures.specs.Outcome.{answered, refused, map_answer}
 use Rattle.figures.specs.Same.{same27, same83}
-use Rattle.figures.specs.declared.Point27.{Point27}
-use Rattle.figures.specs.declared.Point83.{Point83}
+use Rattle.figures.specs.Points.{Point27, Point83}
 use Rattle.figures.proofs.Laws.{answer_not_refusal, same_answer}
 use Rattle.figures.proofs.SameLaws.{equal27, same27_refl, equal83, same83_refl}
 use Rattle.grid.specs.Grid.{Grid}

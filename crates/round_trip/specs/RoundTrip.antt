@@ -2,8 +2,7 @@
 use Rattle.std.specs.Prelude.{Bool, true, false, ◌&&◌}
 use Rattle.figures.specs.Outcome.{Outcome, answered, refused, and_then, map_answer}
 use Rattle.figures.specs.Same.{same27}
-use Rattle.figures.specs.declared.Point27.{Point27}
-use Rattle.figures.specs.declared.Point83.{Point83}
+use Rattle.figures.specs.Points.{Point27, Point83}
 use Rattle.grid.specs.Grid.{Grid}
 use Rattle.convert.specs.Convert.{answer_signs, to83, to27}
 use Rattle.convert.specs.declared.Shifted.{Shifted}

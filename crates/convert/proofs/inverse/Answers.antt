@@ -1,6 +1,5 @@
 use Rattle.std.proofs.Common.{arith, ◌≡◌, true, ap, ◌∙◌}
-use Rattle.figures.specs.declared.Point27.{Point27}
-use Rattle.figures.specs.declared.Point83.{Point83}
+use Rattle.figures.specs.Points.{Point27, Point83}
 use Rattle.grid.specs.Grid.{grid_of}
 use Rattle.grid.proofs.Passing.{good}
 use Rattle.convert.specs.Points.{on_grid, answer_of}
