@@ -2,7 +2,7 @@
 use Rattle.std.specs.Prelude.{ℕ, ℤ}
 use Rattle.figures.specs.declared.Nad27.{Nad27}
 use Rattle.figures.specs.declared.Nad83.{Nad83}
-use Rattle.figures.specs.declared.Point.{Point}
+use Rattle.figures.specs.declared.point.Point.{Point}
 
 abbrev pub Point27 : Type 0
 Point27 = Point Nad27

@@ -1,9 +1,13 @@
 // The figures of the two datums, points of each, and the refusals.
 #![tactic(auto)]
 
+mod point;
+
 ghost use Rattle.std.specs.Prelude.{◌≡◌, ℕ, ℤ};
 ghost use Rattle.figures.specs.Refusal.{number_of, place_of};
-ghost use Rattle.figures.specs.Points.{half_turn27, half_turn83, nad27, nad83, point};
+ghost use Rattle.figures.specs.Points.{half_turn27, half_turn83, nad27, nad83};
+
+pub use point::{Point, Point27, Point83};
 
 // The figure of a datum: a coordinate, counted in the datum's own unit.
 pub trait Figure: Copy {
@@ -20,11 +24,11 @@ pub trait Figure: Copy {
 }
 
 // A NAD 27 figure, in thousandths of an arc second.
-#[derive(Clone, Copy, Debug, PartialEq, Eq)]
+#[derive(Clone, Copy, PartialEq, Eq)]
 pub struct Nad27(pub i64);
 
 // A NAD 83 figure, in hundred-thousandths of an arc second.
-#[derive(Clone, Copy, Debug, PartialEq, Eq)]
+#[derive(Clone, Copy, PartialEq, Eq)]
 pub struct Nad83(pub i64);
 
 impl Figure for Nad27 {
@@ -51,31 +55,9 @@ impl Figure for Nad83 {
     }
 }
 
-// Latitude is positive north and longitude positive east, in both datums.
-#[derive(Clone, Copy, Debug, PartialEq, Eq)]
-pub struct Point<F> {
-    pub lat: F,
-    pub lon: F,
-}
-
-pub type Point27 = Point<Nad27>;
-
-pub type Point83 = Point<Nad83>;
-
-impl<F: Figure> Point<F> {
-    pub fn new(lat: i64, lon: i64) -> Point<F>
-        ensures { result ≡ point F.figure lat lon }
-    {
-        Point {
-            lat: F::new(lat),
-            lon: F::new(lon),
-        }
-    }
-}
-
 // Why the answer is no: one variant for each row of document 01's table, and for each refusal that a request of document 02 adds, with the
 // place where that varies.
-#[derive(Clone, Copy, Debug, PartialEq, Eq)]
+#[derive(Clone, Copy, PartialEq, Eq)]
 pub enum Refusal {
     // 1: the line that is missing, extra or not of its form, from 1.
     Form(usize),
