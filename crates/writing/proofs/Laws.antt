@@ -3,20 +3,17 @@
 use Prim.Native.Nat.{ℕ, ◌+◌, ◌-◌, ◌^◌, ◌≤◌, ◌<◌, min}
 use mathlib.Core.Path.{◌≡◌, refl, sym, ap, ◌∙◌}
 use mathlib.Core.List.{List, [], ◌∷◌, ◌++◌, append-nil}
-use mathlib.Core.Logic.{⊎_elim}
+use Rattle.std.specs.Prelude.{Result, Ok, Err}
 use native.Mathlib.Omega.{arith}
 use native.Mathlib.Nat.{le_of_eq}
-use native.Mathlib.Numerals.{add-one}
 use borrow.Author.Tests.{lt-ltb, le-ltb}
 use borrow.Rule.Slice.PartMut.{mid_of, put_mid}
-use lib.ListN.{length, get_or, take, drop, set, length-append, length-drop, length-take, length-set, drop_of_length-le}
-use lib.Seq.{take_all, take-suc}
-use Rattle.laws.specs.Logic.{lt_or_ge}
-use Rattle.laws.specs.Over.{over, length_over, over-set, over-take, over-drop, over-append}
-use Rattle.figures.specs.Outcome.{answered, refused}
+use lib.ListN.{length, take, drop, set, length-append, length-drop, length-take, length-set, drop_of_length-le}
+use lib.Seq.{take_all}
+use Rattle.laws.specs.Over.{over, over-set, over-take, over-drop, over-append}
+use Rattle.figures.specs.Outcome.{answered, refused, outcome}
 use Rattle.figures.specs.declared.Refusal.{Refusal}
-use Rattle.writing.specs.Writing.{saturated, in_room, room_after, written_outcome, bytes_of, Wrote, Put, Added}
-use Rattle.writing.specs.declared.Written.{Written}
+use Rattle.writing.specs.Writing.{saturated, in_room, room_after, Wrote, Put, Added}
 
 -- ---- the rest of a list from k on, as it is lent, and the list when it is back
 
@@ -89,18 +86,12 @@ module _ (text room : List ℕ) where
   unfolding in_room
   fits h = rw (le-ltb (length room) (length text) h)
 
--- a turn of a loop that copies a text
-pub put_take : (text : List ℕ) (i : ℕ) {l m : List ℕ} → Put (take i text) l m i → i < length text → length text < 2 ^ 63 → length l < 2 ^ 63 → Put (take (i + 1) text) l (set m i (get_or text i 0)) (i + 1)
-put_take text i p h b g =
-    let e : take (i + 1) text ≡ take i text ++ (get_or text i 0 ∷ []) = rw (add-one, take-suc text i 0) in
-    rw e (put_more (get_or text i 0) p g (omega arith))
-
 -- a writer that looks for room has refused, or has written
-pub wrote_short : (text room : List ℕ) {n : ℕ} → n ≡ saturated (length text) → length room < length text → Wrote text room room (Written.Refused (Refusal.Room n))
+pub wrote_short : (text room : List ℕ) {n : ℕ} → n ≡ saturated (length text) → length room < length text → Wrote text room room (Err (Refusal.Room n))
 unfolding room_after
 wrote_short text room e h = let o = too_short text room h in record { answer = rw (o, e); room = rw o }
 
-pub wrote_fits : {text room after : List ℕ} {n : ℕ} → Put text room after n → length text ≤ length room → length room < 2 ^ 63 → Wrote text room after (Written.Bytes n)
+pub wrote_fits : {text room after : List ℕ} {n : ℕ} → Put text room after n → length text ≤ length room → length room < 2 ^ 63 → Wrote text room after (Ok n)
 unfolding room_after
 wrote_fits {text} {room} {n = n} p h b =
     let o = fits text room h in
@@ -108,50 +99,15 @@ wrote_fits {text} {room} {n = n} p h b =
     record { answer = rw (o, e); room = rw o (p.wrote h) }
 
 -- the room, by what the writer answered
-pub wrote_room : {text room after : List ℕ} {r : Written} → Wrote text room after r → after ≡ room_after (written_outcome r) text room
+pub wrote_room : {text room after : List ℕ} {r : Result ℕ Refusal} → Wrote text room after r → after ≡ room_after (outcome r) text room
 wrote_room {text} {room} w = w.room ∙ ap (λ o. room_after o text room) (sym w.answer)
 
-bytes_answered : (q : Written) {k : ℕ} → written_outcome q ≡ answered k → bytes_of q ≡ k
-bytes_answered (Written.Bytes n) e = cc
-bytes_answered (Written.Refused why) e = let z : ◌≡◌ {A = ℕ} 0 1 = cc in absurd (omega arith)
-
-bytes_refused : (q : Written) {j k : ℕ} → written_outcome q ≡ refused j k → bytes_of q ≡ k
-bytes_refused (Written.Bytes n) e = let z : ◌≡◌ {A = ℕ} 0 1 = cc in absurd (omega arith)
-bytes_refused (Written.Refused why) e = cc
-
--- what such a writer has done is a part of a text
-module _ {text room after : List ℕ} {r : Written} (w : Wrote text room after r) where
-  put_short : length room < length text → Put text room after (bytes_of r)
-  unfolding room_after
-  put_short h =
-      let o = too_short text room h in
-      let same : after ≡ room = rw o at w.room in
-      record { counted = bytes_refused r (w.answer ∙ o); kept = ap length same; wrote = λ g. absurd (omega arith) }
-
-  put_fits : length text ≤ length room → length room < 2 ^ 63 → Put text room after (bytes_of r)
-  unfolding room_after
-  put_fits h b =
-      let o = fits text room h in
-      let all : after ≡ over text room = rw o at w.room in
-      record { counted = omega (arith, bytes_answered r (w.answer ∙ o)); kept = ap length all ∙ length_over text room h; wrote = λ g. all }
-
-  pub wrote_put : {n : ℕ} → n ≡ bytes_of r → length room < 2 ^ 63 → Put text room after n
-  wrote_put e b = rw e (⊎_elim put_short (λ h. put_fits h b) (lt_or_ge (length room) (length text)))
-
 -- ---- a text that was first counted, in no bytes of the room, and then written into all of it
-module _ (text room : List ℕ) (b : length room < 2 ^ 63) {y : List ℕ} {n : ℕ} (p : Put text [] y n) where
-  empty : (l : List ℕ) → length l ≡ 0 → l ≡ []
-  empty [] e = refl
-  empty (x ∷ l) e = absurd (omega arith)
 
-  same : put_mid 0 0 room y ≡ room
-  same = ap (put_mid 0 0 room) (empty y p.kept)
+empty : (l : List ℕ) → length l ≡ 0 → l ≡ []
+empty [] e = refl
+empty (x ∷ l) e = absurd (omega arith)
 
-  enough : n ≤ length (put_mid 0 0 room y) → length text ≤ length room
-  enough h = omega (arith, p.counted, ap length same)
-
-  pub counted_short : length (put_mid 0 0 room y) < n → Wrote text room (put_mid 0 0 room y) (Written.Refused (Refusal.Room n))
-  counted_short h = rw same (wrote_short text room p.counted (omega (arith, p.counted, ap length same)))
-
-  pub counted_fits : n ≤ length (put_mid 0 0 room y) → {after : List ℕ} {m : ℕ} → Put text (put_mid 0 0 room y) after m → Wrote text room after (Written.Bytes m)
-  counted_fits h q = wrote_fits (rw same at q) (enough h) b
+-- the room, with what came back of none of its bytes
+pub counted_room : {text y : List ℕ} {n : ℕ} (room : List ℕ) → Put text [] y n → y ++ room ≡ room
+counted_room {y = y} room p = rw (empty y p.kept)

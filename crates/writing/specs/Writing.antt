@@ -1,9 +1,10 @@
 -- Writing a text into lent room (document 01, "When the answer is no": 8).
-use Rattle.std.specs.Prelude.{ℕ, ◌+◌, ◌≤◌, min, ◌≡◌, List, ◌++◌, ltb, length, take, drop}
+use Rattle.std.specs.Prelude.{ℕ, ◌+◌, ◌≤◌, min, ◌≡◌, List, ◌++◌, ltb, length, take, drop, Result}
+use Rattle.std.specs.Fn.{Shared}
+use denote.Ref.{MutBor}
 use Rattle.laws.specs.Over.{over}
-use Rattle.figures.specs.Refusal.{place_of}
-use Rattle.figures.specs.Outcome.{Outcome, answered, refused, refusal, refuse_if}
-use Rattle.writing.specs.declared.Written.{Written}
+use Rattle.figures.specs.Outcome.{Outcome, answered, refused, outcome, refuse_if}
+use Rattle.figures.specs.declared.Refusal.{Refusal}
 
 -- a number of bytes as it can be told, at most 2 ^ 64 − 1
 abbrev pub saturated : ℕ → ℕ
@@ -20,18 +21,9 @@ room_after (refused n k) text room = room
 
 -- ---- what a writer answers
 
-abbrev pub written_outcome : Written → Outcome ℕ
-written_outcome (Written.Bytes n) = answered n
-written_outcome (Written.Refused w) = refusal w
-
--- the bytes that the text takes, written or not
-abbrev pub bytes_of : Written → ℕ
-bytes_of (Written.Bytes n) = n
-bytes_of (Written.Refused w) = place_of w
-
 -- the room `before` was lent for a text, is `after` now, and the answer is `r`
-pub record Wrote (text before after : List ℕ) (r : Written) : Type 0 where
-  pub answer : written_outcome r ≡ in_room text before
+pub record Wrote (text before after : List ℕ) (r : Result ℕ Refusal) : Type 0 where
+  pub answer : outcome r ≡ in_room text before
   pub room : after ≡ room_after (in_room text before) text before
 
 -- ---- a text of parts, each written into what the one before it left of the room
@@ -47,3 +39,7 @@ pub record Added (part : List ℕ) (at : ℕ) (before after : List ℕ) (end : �
   pub counted : end ≡ saturated (at + length part)
   pub kept : length after ≡ length before
   pub wrote : at + length part ≤ length before → after ≡ take at before ++ over part (drop at before)
+
+-- each call of `f`, at any room, puts the text
+pub record Puts {F : Type 0} (g : Shared F (MutBor (List ℕ) × Unit {0}) (ℕ × (MutBor (List ℕ) × Unit {0}))) (f : F) (text : List ℕ) : Type 0 where
+  pub each : (before after : MutBor (List ℕ)) (count : ℕ) → g.post f (before, tt) (count, (after, tt)) → Put text before.now after.now count

@@ -1,53 +1,52 @@
-// Text written into lent room. Every writer answers `Written`; to know beforehand how many bytes a text takes, it is written into a
-// room of none.
+// Text written into lent room. A `put_*` function counts the bytes of a text, and writes it where the room has them all: a room of none is
+// enough to count. A `write_*` function refuses a room that is too short, and leaves it as it was.
 #![tactic(auto)]
 
-ghost use Rattle.std.specs.Prelude.{◌≡◌, ◌+◌};
-ghost use Rattle.writing.specs.Writing.{saturated, bytes_of, Wrote};
+ghost use Rattle.std.specs.Prelude.{ℕ, List, length, ◌≤◌};
+ghost use Rattle.writing.specs.Writing.{Wrote, Put, Puts, Added};
 
 use figures::Refusal;
 
-#[derive(Clone, Copy)]
-pub enum Written {
-    // The number of bytes of the text, which is at the front of the room.
-    Bytes(usize),
-    Refused(Refusal),
-}
-
-impl Written {
-    // The bytes that the text takes, whether they were written or, for want of room, not.
-    pub fn bytes(self) -> usize
-        ensures { result ≡ bytes_of self }
-    {
-        match self {
-            Written::Bytes(n) => n,
-            Written::Refused(why) => why.place(),
-        }
+// Puts a text over the front of the room.
+pub fn put_text(text: &[u8], room: &mut [u8]) -> usize
+    ensures { Put text.now room.old room.new result }
+{
+    if text.len() <= room.len() {
+        room[..text.len()].copy_from_slice(text);
     }
+    text.len()
 }
 
 // Writes a text over the front of the room.
-pub fn write_text(text: &[u8], room: &mut [u8]) -> Written
+pub fn write_text(text: &[u8], room: &mut [u8]) -> Result<usize, Refusal>
     ensures { Wrote text.now room.old room.new result }
 {
-    let n = text.len();
-    if room.len() < n {
-        return Written::Refused(Refusal::Room(n));
-    }
-    let mut i: usize = 0;
-    while i < n {
-        room[i] = text[i];
-        i += 1;
-    }
-    Written::Bytes(n)
+    write(text.len(), room, |room| put_text(text, room))
 }
 
-// The sum of two numbers of bytes, or the greatest number that can be told.
-pub fn saturating_add(a: usize, b: usize) -> usize
-    ensures { result ≡ saturated (a + b) }
+// Writes what `put` puts, which takes no more than `most` bytes: a room of as many is not counted first.
+pub fn write<F: Fn(&mut [u8]) -> usize>(
+    most: usize,
+    room: &mut [u8],
+    put: F,
+) -> Result<usize, Refusal>
+    requires { F.IsAlwaysCallable put }
+    ensures { (text : List ℕ) → Puts F.Fn put text → length text ≤ most → Wrote text room.old room.new result }
 {
-    if 18_446_744_073_709_551_615 - a < b {
-        return 18_446_744_073_709_551_615;
+    if room.len() < most {
+        let needed = put(&mut room[..0]);
+        if room.len() < needed {
+            return Err(Refusal::Room(needed));
+        }
     }
-    a + b
+    Ok(put(room))
+}
+
+// Puts a part into what the first `at` bytes leave of the room. The answer is the place behind the part.
+pub fn put_behind<F: Fn(&mut [u8]) -> usize>(at: usize, room: &mut [u8], put: F) -> usize
+    requires { F.IsAlwaysCallable put }
+    ensures { (part : List ℕ) → Puts F.Fn put part → Added part at room.old room.new result }
+{
+    let from = at.min(room.len());
+    at.saturating_add(put(&mut room[from..]))
 }
