@@ -24,16 +24,16 @@ pub fn write_text(text: &[u8], room: &mut [u8]) -> Result<usize, Refusal>
     write(text.len(), room, |room| put_text(text, room))
 }
 
-// Writes what `put` puts, which takes no more than `most` bytes: a room of as many is not counted first.
+// Writes what `put` puts. A room of `enough` bytes is known to be long enough; for any other the bytes are counted first.
 pub fn write<F: Fn(&mut [u8]) -> usize>(
-    most: usize,
+    enough: usize,
     room: &mut [u8],
     put: F,
 ) -> Result<usize, Refusal>
     requires { F.IsAlwaysCallable put }
-    ensures { (text : List ℕ) → Puts F.Fn put text → length text ≤ most → Wrote text room.old room.new result }
+    ensures { (text : List ℕ) → Puts F.Fn put text → (enough ≤ length room.old → length text ≤ length room.old) → Wrote text room.old room.new result }
 {
-    if room.len() < most {
+    if room.len() < enough {
         let needed = put(&mut room[..0]);
         if room.len() < needed {
             return Err(Refusal::Room(needed));
