@@ -5,6 +5,8 @@
 ghost use Rattle.std.specs.Prelude.{◌≡◌};
 ghost use Rattle.shift.specs.Sign.{sign_of, sign_number};
 
+use std::cmp::Ordering;
+
 // A point's distances from the sides of its cell: A and B from its west and east side, C and D from its south and north side.
 #[derive(Clone, Copy)]
 pub struct Distances {
@@ -40,45 +42,45 @@ pub struct ExactShift {
 }
 
 // The rounded shift: NAD 83 minus NAD 27, in hundred-thousandths of an arc second.
-#[derive(Clone, Copy)]
+#[derive(Clone, Copy, Debug, PartialEq, Eq)]
 pub struct Shift {
     pub lat: i64,
     pub lon: i64,
 }
 
 // For each component the sign of the rounded shift minus the exact fraction: zero where the shift is exact.
-#[derive(Clone, Copy)]
+#[derive(Clone, Copy, Debug, PartialEq, Eq)]
 pub struct Signs {
     pub lat: Sign,
     pub lon: Sign,
 }
 
-#[derive(Clone, Copy)]
+#[derive(Clone, Copy, Debug, PartialEq, Eq)]
 pub enum Sign {
     Negative,
     Zero,
     Positive,
 }
 
-impl Sign {
-    // The sign of a number.
-    pub fn of(x: i64) -> Sign
-        ensures { result ≡ sign_of x }
-    {
-        if x < 0 {
-            return Sign::Negative;
-        }
-        if 0 < x {
-            return Sign::Positive;
-        }
-        Sign::Zero
-    }
+// The sign of a number.
+impl From<i64> for Sign {
+    ghost from_gives = { λ x s. s ≡ sign_of x };
 
-    // -1, 0 or 1.
-    pub fn number(self) -> i64
-        ensures { result ≡ sign_number self }
-    {
-        match self {
+    fn from(x: i64) -> Sign {
+        match x.cmp(&0) {
+            Ordering::Less => Sign::Negative,
+            Ordering::Equal => Sign::Zero,
+            Ordering::Greater => Sign::Positive,
+        }
+    }
+}
+
+// -1, 0 or 1.
+impl From<Sign> for i64 {
+    ghost from_gives = { λ s x. x ≡ sign_number s };
+
+    fn from(sign: Sign) -> i64 {
+        match sign {
             Sign::Negative => -1,
             Sign::Zero => 0,
             Sign::Positive => 1,
