@@ -4,9 +4,12 @@ use Prim.Native.Nat.{ℕ, ◌≤◌}
 use mathlib.Core.Path.{◌≡◌, refl, sym}
 use mathlib.Core.Bool.{Bool, true, false}
 use native.Mathlib.Omega.{arith}
+use Rattle.std.specs.Prelude.{Option, Some, None, Result, Ok, Err, ok_or}
+use Rattle.std.specs.Result.{IsErrAnd}
+use Rattle.std.proofs.lemmas.Result.{err_from_is_err_and}
 use Rattle.figures.specs.Refusal.{number_of}
 use Rattle.figures.specs.declared.Refusal.{Refusal}
-use Rattle.figures.specs.Outcome.{Outcome, answered, refused, and_then, refuse_if, map_answer}
+use Rattle.figures.specs.Outcome.{Outcome, answered, refused, refusal, outcome, and_then, refuse_if, map_answer}
 
 pub answer_not_refusal : {A : Type 0} {a : A} {n k : ℕ} → answered a ≡ refused n k → ⊥
 answer_not_refusal e = let z : ◌≡◌ {A = ℕ} 0 1 = cc in omega arith
@@ -36,6 +39,19 @@ refused_map f (refused m j) e = cc
 pub answered_map : {A B : Type 0} (f : A → B) (o : Outcome A) {b : B} → answered b ≡ map_answer f o → (a : A) × (o ≡ answered a) × (f a ≡ b)
 answered_map f (answered a) e = (a, refl, sym (same_answer e))
 answered_map f (refused m j) e = absurd (answer_not_refusal e)
+
+-- what the exit of a `?` returns
+pub at_exit : {A : Type 0} (r : Result A Refusal) (w : Refusal) → IsErrAnd r (λ v. v ≡ w) → outcome r ≡ refusal w
+at_exit r w e = let t = err_from_is_err_and r e in rw (t.1, t.2)
+
+-- `o.ok_or(w)?`: what goes on, and what is refused
+pub some_of : {A : Type 0} {o : Option A} (w : Refusal) {a : A} → Ok a ≡ ok_or o w → Some a ≡ o
+some_of {o = Some b} w e = cc
+some_of {o = None} w e = cc
+
+pub none_of : {A : Type 0} {o : Option A} (w : Refusal) {v : Refusal} → Err v ≡ ok_or o w → (None ≡ o) × (v ≡ w)
+none_of {o = Some b} w e = cc
+none_of {o = None} w e = (refl, cc)
 
 -- the numbers of the refusals are small
 pub number_small : (w : Refusal) → number_of w ≤ 99
