@@ -42,20 +42,20 @@ pub struct ExactShift {
 }
 
 // The rounded shift: NAD 83 minus NAD 27, in hundred-thousandths of an arc second.
-#[derive(Clone, Copy, Debug, PartialEq, Eq)]
+#[derive(Clone, Copy, PartialEq, Eq)]
 pub struct Shift {
     pub lat: i64,
     pub lon: i64,
 }
 
 // For each component the sign of the rounded shift minus the exact fraction: zero where the shift is exact.
-#[derive(Clone, Copy, Debug, PartialEq, Eq)]
+#[derive(Clone, Copy, PartialEq, Eq)]
 pub struct Signs {
     pub lat: Sign,
     pub lon: Sign,
 }
 
-#[derive(Clone, Copy, Debug, PartialEq, Eq)]
+#[derive(Clone, Copy, PartialEq, Eq)]
 pub enum Sign {
     Negative,
     Zero,
