@@ -1,15 +1,15 @@
 -- The texts that are numbers are the spelled numbers, and those whose bytes are all pushed.
 use Prim.Native.Nat.{ℕ, zero, suc, ◌+◌, ◌-◌, ◌*◌, ◌%◌, ◌/◌, ◌^◌, ◌≤◌, ◌<◌}
-use mathlib.Core.Path.{◌≡◌, refl, sym, ap, ◌∙◌, subst}
+use mathlib.Core.Path.{◌≡◌, refl, sym, ap, ◌∙◌}
 use mathlib.Core.Bool.{true, not, ◌&&◌, ◌||◌, false≢true}
 use mathlib.Core.List.{List, [], ◌∷◌, ◌++◌, append_assoc, append-nil}
-use mathlib.Core.Option.{Option, none as nothing, some, some-injective, some-ne-none}
 use native.Mathlib.Omega.{arith}
 use native.Mathlib.Nat.{pow-suc, mul_assoc, mul_comm, mul-le-mul_right, lt_of_lt_of_le, pow-le-pow_right}
 use borrow.Author.Tests.{le-leb, leb-true, ne_eqb, eqb-true, eqb-false, not-true}
 use lib.ListN.{length, get_or, get_or-append}
 use lib.Dec.{leb, eqb}
 use lib.IntN.{ℤ, pos, negsuc}
+use Rattle.std.specs.Prelude.{Option, Some, None}
 use Rattle.laws.specs.Logic.{or_true, both, by_cond}
 use Rattle.decimal.specs.Spelling.{digits, spell, Short, is_digit, all_digits, value_from, is_magnitude, magnitude_in, behind_minus, plain, number_in}
 use Rattle.decimal.specs.Pushing.{none, part, pushed_all}
@@ -77,7 +77,7 @@ digits_value (d ∷ x ∷ t) h p c =
 
 -- ---- magnitudes
 
-magnitude_digits : (n : ℕ) → n < 10 ^ 11 → magnitude_in (digits n) ≡ some n
+magnitude_digits : (n : ℕ) → n < 10 ^ 11 → magnitude_in (digits n) ≡ Some n
 unfolding magnitude_in is_magnitude
 magnitude_digits n h = rw (
   digits-digits n,
@@ -87,7 +87,7 @@ magnitude_digits n h = rw (
   value_digits n,
 )
 
-digits_magnitude : (t : List ℕ) {n : ℕ} → magnitude_in t ≡ some n → (t ≡ digits n) × (n < 10 ^ 11)
+digits_magnitude : (t : List ℕ) {n : ℕ} → magnitude_in t ≡ Some n → (t ≡ digits n) × (n < 10 ^ 11)
 unfolding magnitude_in is_magnitude
 digits_magnitude t {n} e =
     by_cond (is_magnitude t) e
@@ -96,9 +96,9 @@ digits_magnitude t {n} e =
     let g = both (all_digits t) (leb 1 (length t) && leb (length t) 11) f.0 in
     let h = both (leb 1 (length t)) (leb (length t) 11) g.1 in
     let b : 10 ^ length t ≤ 10 ^ 11 = pow-le-pow_right (omega arith) (leb-true (length t) 11 h.1) in
-    let v : value_from 0 t ≡ n = some-injective (value_from 0 t) n e in
+    let v : value_from 0 t ≡ n = cc in
     (sym (digits_value t g.0 (leb-true 1 (length t) h.0) f.1) ∙ ap digits v, omega (arith, value_lt 0 t g.0)))
-    (λ _ e. absurd (some-ne-none n (sym e)))
+    (λ _ e. absurd cc)
 
 -- ---- numbers
 
@@ -108,27 +108,28 @@ unfolding number_in magnitude_in is_magnitude
 plain-digits [] h = refl
 plain-digits (b ∷ t) h = rw (ne_eqb b 45 (omega (arith, digit_range b (both (is_digit b) (all_digits t) h).0)))
 
-pub grammar_spell : (x : ℤ) → Short x → number_in (spell x) ≡ some x
+pub grammar_spell : (x : ℤ) → Short x → number_in (spell x) ≡ Some x
 unfolding spell number_in
 grammar_spell (pos n) h = plain-digits (digits n) (digits-digits n) ∙ ap plain (magnitude_digits n h)
 grammar_spell (negsuc n) h = ap behind_minus (magnitude_digits (suc n) h)
 
-plain-spell : (t : List ℕ) (o : Option ℕ) {x : ℤ} → magnitude_in t ≡ o → plain o ≡ some x → (t ≡ spell x) × Short x
+plain-spell : (t : List ℕ) (o : Option ℕ) {x : ℤ} → magnitude_in t ≡ o → plain o ≡ Some x → (t ≡ spell x) × Short x
 unfolding spell
-plain-spell t (some n) {x} q e = subst (λ (y : ℤ). (t ≡ spell y) × Short y) (some-injective (pos n) x e) (digits_magnitude t q)
-plain-spell t nothing {x} q e = absurd (some-ne-none x (sym e))
+plain-spell t (Some n) {x} q e = let f : pos n ≡ x = cc in rw (← f) (digits_magnitude t q)
+plain-spell t None {x} q e = absurd cc
 
-minus-spell : (t : List ℕ) (o : Option ℕ) {x : ℤ} → magnitude_in t ≡ o → behind_minus o ≡ some x → ((45 ∷ t) ≡ spell x) × Short x
+minus-spell : (t : List ℕ) (o : Option ℕ) {x : ℤ} → magnitude_in t ≡ o → behind_minus o ≡ Some x → ((45 ∷ t) ≡ spell x) × Short x
 unfolding spell
-minus-spell t (some (suc n)) {x} q e =
+minus-spell t (Some (suc n)) {x} q e =
     let h = digits_magnitude t q in
-    subst (λ (y : ℤ). ((45 ∷ t) ≡ spell y) × Short y) (some-injective (negsuc n) x e) (ap (λ (r : List ℕ). 45 ∷ r) h.0, h.1)
-minus-spell t (some zero) {x} q e = absurd (some-ne-none x (sym e))
-minus-spell t nothing {x} q e = absurd (some-ne-none x (sym e))
+    let f : negsuc n ≡ x = cc in
+    rw (← f) (ap (λ (r : List ℕ). 45 ∷ r) h.0, h.1)
+minus-spell t (Some zero) {x} q e = absurd cc
+minus-spell t None {x} q e = absurd cc
 
-pub spell_grammar : (w : List ℕ) {x : ℤ} → number_in w ≡ some x → (w ≡ spell x) × Short x
+pub spell_grammar : (w : List ℕ) {x : ℤ} → number_in w ≡ Some x → (w ≡ spell x) × Short x
 unfolding number_in
-spell_grammar [] {x} e = absurd (some-ne-none x (sym e))
+spell_grammar [] {x} e = absurd cc
 spell_grammar (b ∷ t) e =
     by_cond (eqb b 45) e
     (λ q e. rw (eqb-true b 45 q) (minus-spell t (magnitude_in t) refl e))
@@ -136,10 +137,10 @@ spell_grammar (b ∷ t) e =
 
 -- ---- the grammar and the pushing of bytes say the same
 
-same_option : {A : Type 0} (a b : Option A) → ((x : A) → a ≡ some x → b ≡ some x) → ((x : A) → b ≡ some x → a ≡ some x) → a ≡ b
-same_option nothing nothing f g = refl
-same_option nothing (some y) f g = g y refl
-same_option (some x) b f g = sym (f x refl)
+same_option : {A : Type 0} (a b : Option A) → ((x : A) → a ≡ Some x → b ≡ Some x) → ((x : A) → b ≡ Some x → a ≡ Some x) → a ≡ b
+same_option None None f g = refl
+same_option None (Some y) f g = g y refl
+same_option (Some x) b f g = sym (f x refl)
 
 pub number_pushed : (n : Number) → Good n → (w : List ℕ) → number_in (part n ++ w) ≡ pushed_all n w
 number_pushed n g w =
@@ -153,7 +154,7 @@ number_pushed n g w =
 
 -- ---- no two spellings of one number, and no two numbers of one spelling
 
-pub one_spelling : (v w : List ℕ) {x : ℤ} → number_in v ≡ some x → number_in w ≡ some x → v ≡ w
+pub one_spelling : (v w : List ℕ) {x : ℤ} → number_in v ≡ Some x → number_in w ≡ Some x → v ≡ w
 one_spelling v w e f = (spell_grammar v e).0 ∙ sym (spell_grammar w f).0
 
 no_minus : (m : ℕ) (t : List ℕ) → digits m ≡ 45 ∷ t → ⊥

@@ -5,13 +5,13 @@ use mathlib.Core.Bool.{true, false}
 use mathlib.Core.List.{◌∷◌}
 use native.Mathlib.Omega.{arith}
 use lib.IntN.{ℤ, pos, negsuc, nat_abs}
-use lib.Signed.{lt_z, ◌<ℤ◌, ◌≤ℤ◌}
+use lib.Signed.{le_z, ◌<ℤ◌, ◌≤ℤ◌}
 use mir.Syntax.{w64}
 use mir.Val.{SFits}
 use mir.Facts.{to_z-of_z}
 use Rattle.laws.specs.Parts.{ints}
-use Rattle.laws.specs.Expr.{machine, lit, fitting}
-use Rattle.laws.specs.Tests.{lt_yes, lt_no}
+use Rattle.laws.specs.Expr.{machine}
+use Rattle.laws.specs.Logic.{le_z_holds, le_z_fails}
 use Rattle.decimal.specs.Spelling.{spell, digits}
 
 minus-digits : {x : ℤ} → x <ℤ pos 0 → spell x ≡ 45 ∷ digits (nat_abs x)
@@ -29,8 +29,8 @@ module _ {x : ℤ} (f : SFits w64 x) {m : ℕ} (e : m ≡ nat_abs (machine x)) w
   size : m ≡ nat_abs x
   size = e ∙ ap nat_abs (to_z-of_z f)
 
-  pub spell-minus : lt_z (machine x) (pos 0) ≡ true → spell x ≡ 45 ∷ digits m
-  spell-minus t = rw size (minus-digits (lt_yes (fitting f) (lit (pos 0)) tt t))
+  pub spell-plain : le_z (pos 0) (machine x) ≡ true → spell x ≡ digits m
+  spell-plain t = rw size (plain-digits (le_z_holds (rw (to_z-of_z f) at t)))
 
-  pub spell-plain : lt_z (machine x) (pos 0) ≡ false → spell x ≡ digits m
-  spell-plain t = rw size (plain-digits (lt_no (fitting f) (lit (pos 0)) tt t))
+  pub spell-minus : le_z (pos 0) (machine x) ≡ false → spell x ≡ 45 ∷ digits m
+  spell-minus t = rw size (minus-digits (le_z_fails (rw (to_z-of_z f) at t)))

@@ -1,3 +1,2 @@
 pub mod Spelling
 pub mod Pushing
-pub mod Reading

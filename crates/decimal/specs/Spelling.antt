@@ -1,6 +1,5 @@
 -- A number as decimal text (document 01, "The sheet"): how it is spelled, and which texts are numbers.
-use Rattle.std.specs.Prelude.{ℕ, zero, suc, ◌+◌, ◌-◌, ◌*◌, ◌/◌, ◌%◌, ◌^◌, ◌<◌, Bool, true, false, not, ◌&&◌, ◌||◌, cond, List, [], ◌∷◌, ◌++◌, length, get_or, ltb, leb, eqb, ℤ, pos, negsuc, nat_abs}
-use Rattle.std.proofs.Math.Option.{Option, none, some}
+use Rattle.std.specs.Prelude.{ℕ, zero, suc, ◌+◌, ◌-◌, ◌*◌, ◌/◌, ◌%◌, ◌^◌, ◌<◌, Bool, true, false, not, ◌&&◌, ◌||◌, cond, List, [], ◌∷◌, ◌++◌, length, get_or, ltb, leb, eqb, ℤ, pos, negsuc, nat_abs, Option, Some, None}
 
 -- ---- spelling
 
@@ -44,19 +43,19 @@ unfoldable pub is_magnitude : List ℕ → Bool
 is_magnitude t = all_digits t && (leb 1 (length t) && leb (length t) 11) && (eqb (length t) 1 || not (eqb (get_or t 0 0) 48))
 
 unfoldable pub magnitude_in : List ℕ → Option ℕ
-magnitude_in t = cond (is_magnitude t) (some (value_from 0 t)) none
+magnitude_in t = cond (is_magnitude t) (Some (value_from 0 t)) None
 
 -- behind a minus there is no 0
 abbrev pub behind_minus : Option ℕ → Option ℤ
-behind_minus none = none
-behind_minus (some zero) = none
-behind_minus (some (suc n)) = some (negsuc n)
+behind_minus None = None
+behind_minus (Some zero) = None
+behind_minus (Some (suc n)) = Some (negsuc n)
 
 abbrev pub plain : Option ℕ → Option ℤ
-plain none = none
-plain (some n) = some (pos n)
+plain None = None
+plain (Some n) = Some (pos n)
 
 -- the number that a text is
 unfoldable pub number_in : List ℕ → Option ℤ
-number_in [] = none
+number_in [] = None
 number_in (b ∷ t) = cond (eqb b 45) (behind_minus (magnitude_in t)) (plain (magnitude_in (b ∷ t)))

@@ -7,73 +7,33 @@ mod spelling;
 ghost use Rattle.std.specs.Prelude.{◌≡◌};
 ghost use Rattle.writing.specs.Writing.{Wrote};
 ghost use Rattle.decimal.specs.Spelling.{spell, number_in};
-ghost use Rattle.decimal.specs.Reading.{number_outcome};
 
 use figures::Refusal;
-use writing::Written;
+pub use spelling::put_number;
 
 // A number as far as its text was read.
-#[derive(Clone, Copy)]
+#[derive(Clone, Copy, PartialEq, Eq)]
 pub struct Number {
-    pub begun: bool,
     pub negative: bool,
-    pub magnitude: u64,
-}
-
-// What a byte makes of a number.
-#[derive(Clone, Copy)]
-pub enum Pushed {
-    Grown(Number),
-    Refused,
-}
-
-// What a whole text is.
-#[derive(Clone, Copy)]
-pub enum NumberRead {
-    Number(i64),
-    Refused,
+    // What the digits say, once there is one.
+    pub magnitude: Option<u64>,
 }
 
 // The number that a text is.
-pub fn read_number(text: &[u8]) -> NumberRead
-    ensures { number_outcome result ≡ number_in text.now }
+#[tactic(auto, using(crate::proofs::Whole::whole_start, crate::proofs::Whole::whole_byte, crate::proofs::Whole::whole_none, crate::proofs::Whole::whole_end))]
+pub fn read_number(text: &[u8]) -> Option<i64>
+    ensures { result ≡ number_in text.now }
 {
     let mut number = Number::new();
-    let mut i: usize = 0;
-    while i < text.len() {
-        match number.push(text[i]) {
-            Pushed::Grown(next) => {
-                number = next;
-            }
-            Pushed::Refused => {
-                return NumberRead::Refused;
-            }
-        }
-        i += 1;
+    for byte in text {
+        number = number.push(*byte)?;
     }
-    if number.begun {
-        return NumberRead::Number(number.value());
-    }
-    NumberRead::Refused
+    number.value()
 }
 
-// Writes a number over the front of the room. No number takes more than 20 bytes, so most rooms are known to be long enough.
-pub fn write_number(x: i64, room: &mut [u8]) -> Written
+// Writes a number over the front of the room. No number takes more than 20 bytes.
+pub fn write_number(x: i64, room: &mut [u8]) -> Result<usize, Refusal>
     ensures { Wrote (spell x) room.old room.new result }
 {
-    if room.len() < 20 {
-        return write_counted(x, room);
-    }
-    Written::Bytes(spelling::put_number(x, room))
-}
-
-// The same in any room: the bytes are counted first.
-fn write_counted(x: i64, room: &mut [u8]) -> Written
-    ensures { Wrote (spell x) room.old room.new result }
-{
-    let needed = spelling::put_number(x, &mut room[0..0]);
-    if room.len() < needed {
-        return Written::Refused(Refusal::Room(needed));
-    }
-    Written::Bytes(spelling::put_number(x, room))
+    writing::write(20, room, |room| put_number(x, room))
 }

@@ -1,8 +1,8 @@
 // A number read byte by byte.
-ghost use Rattle.std.specs.Prelude.{◌≡◌, ◌&&◌, ◌≤◌};
-ghost use Rattle.decimal.specs.Pushing.{none, minus_pushed, digit_pushed, pushed, value_of};
+ghost use Rattle.std.specs.Prelude.{◌≡◌, ◌≤◌};
+ghost use Rattle.decimal.specs.Pushing.{none, digit_pushed, pushed, value_of};
 
-use super::{Number, Pushed};
+use super::Number;
 
 impl Number {
     // The largest number of 11 digits.
@@ -13,93 +13,54 @@ impl Number {
         ensures { result ≡ none }
     {
         Number {
-            begun: false,
             negative: false,
-            magnitude: 0,
+            magnitude: None,
         }
     }
 
-    // The number with one byte more, or a refusal at the first byte after which no number can follow.
+    // The number with one byte more, or none at the first byte after which no number can follow. A minus stands before all digits, once.
     #[tactic(auto, unfolding(crate::specs::Pushing::pushed, crate::specs::Pushing::minus_pushed))]
-    pub fn push(self, byte: u8) -> Pushed
+    pub fn push(self, byte: u8) -> Option<Number>
         ensures { result ≡ pushed self byte }
     {
-        if byte < b'0' {
-            return push_minus(self, byte);
+        match byte {
+            b'0'..=b'9' => self.push_digit((byte - b'0') as u64),
+            b'-' if self == Number::new() => Some(Number {
+                negative: true,
+                ..self
+            }),
+            _ => None,
         }
-        if b'9' < byte {
-            return Pushed::Refused;
-        }
-        push_digit(self, (byte - b'0') as u64)
     }
 
-    // The integer that was read. A magnitude that no text has is 0.
+    // After a leading 0 and after 11 digits no digit follows, and no 0 after a minus.
+    #[tactic(auto, unfolding(crate::specs::Pushing::digit_pushed))]
+    fn push_digit(self, digit: u64) -> Option<Number>
+        requires { digit ≤ 9 }
+        ensures { result ≡ digit_pushed self digit }
+    {
+        let magnitude = match self.magnitude {
+            None if self.negative && digit == 0 => return None,
+            None => digit,
+            Some(0) => return None,
+            Some(m) if Number::MAX / 10 < m => return None,
+            Some(m) => m * 10 + digit,
+        };
+        Some(Number {
+            magnitude: Some(magnitude),
+            ..self
+        })
+    }
+
+    // The integer that was read, once there is a digit. No text has a magnitude beyond 11 digits.
     #[tactic(auto, unfolding(crate::specs::Pushing::value_of))]
-    pub fn value(self) -> i64
+    pub fn value(self) -> Option<i64>
         ensures { result ≡ value_of self }
     {
-        if Number::MAX < self.magnitude {
-            return 0;
+        match self.magnitude {
+            Some(m) if m <= Number::MAX && self.negative => Some(-(m as i64)),
+            Some(m) if m <= Number::MAX => Some(m as i64),
+            _ => None,
         }
-        if self.negative {
-            return 0 - self.magnitude as i64;
-        }
-        self.magnitude as i64
     }
-}
-
-// A minus stands before all digits, once.
-#[tactic(auto, unfolding(crate::specs::Pushing::minus_pushed))]
-fn push_minus(number: Number, byte: u8) -> Pushed
-    ensures { result ≡ minus_pushed number byte }
-{
-    if byte != b'-' {
-        return Pushed::Refused;
-    }
-    if number.begun {
-        return Pushed::Refused;
-    }
-    if number.negative {
-        return Pushed::Refused;
-    }
-    Pushed::Grown(Number {
-        begun: false,
-        negative: true,
-        magnitude: 0,
-    })
-}
-
-// After a leading 0 and after 11 digits no digit follows, and no 0 after a minus.
-#[tactic(auto, unfolding(crate::specs::Pushing::digit_pushed))]
-fn push_digit(number: Number, digit: u64) -> Pushed
-    requires { digit ≤ 9 }
-    ensures { result ≡ digit_pushed number digit }
-{
-    if number.begun {
-        if number.magnitude == 0 {
-            return Pushed::Refused;
-        }
-        if Number::MAX / 10 < number.magnitude {
-            return Pushed::Refused;
-        }
-        return Pushed::Grown(Number {
-            begun: true,
-            negative: number.negative,
-            magnitude: number.magnitude * 10 + digit,
-        });
-    }
-    if both(number.negative, digit == 0) {
-        return Pushed::Refused;
-    }
-    Pushed::Grown(Number {
-        begun: true,
-        negative: number.negative,
-        magnitude: digit,
-    })
-}
-
-fn both(a: bool, b: bool) -> bool
-    ensures { result ≡ (a && b) }
-{
-    if a { b } else { false }
 }
