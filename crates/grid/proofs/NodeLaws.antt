@@ -1,6 +1,6 @@
 -- Laws of range, steepness and twist, node by node.
 use Prim.Native.Nat.{ℕ, ◌+◌, ◌*◌, ◌/◌, ◌%◌, ◌≤◌, ◌<◌, min}
-use mathlib.Core.Path.{◌≡◌, refl, sym, ap, subst, ◌∙◌}
+use mathlib.Core.Path.{◌≡◌, refl, sym, ap, ◌∙◌}
 use mathlib.Core.Bool.{Bool, true, false, not, ◌&&◌}
 use mathlib.Core.List.{List}
 use mathlib.Core.Logic.{◌⊎◌, inl, inr}
@@ -17,7 +17,7 @@ use Rattle.laws.specs.Expr.{linear, lit, ⊝}
 use Rattle.laws.specs.Logic.{never, and_last, both, not_both, second_fails, lt_or_ge, ltb_same}
 use Rattle.grid.specs.Rules.{minus, between}
 use Rattle.grid.specs.Nodes.{max_shift, node, beyond_range, has_east, has_north, is_southwest, too_much, steep_to, steep_east, steep_north, twist, twisted}
-use Rattle.grid.specs.Needs.{InRange, Component}
+use Rattle.grid.specs.Needs.{InRange, Judgeable}
 use Rattle.grid.specs.declared.Shape.{Shape}
 use Rattle.grid.proofs.RuleLaws.{between_holds, between_true, between_within}
 
@@ -36,11 +36,10 @@ beyond_size K x = go (between (minus K) x (pos K)) refl (lt_or_ge K (nat_abs x))
         absurd (not_both (between_true a b) e)
 
 -- by the most that the size may be
-pub too_much_is : (times spacing : ℕ) (x : ℤ) → 0 < times → not (between (minus (100 * spacing / times)) x (pos (100 * spacing / times))) ≡ too_much times spacing x
+pub too_much_is : (times spacing : ℕ) (x : ℤ) → 0 < times → ltb (100 * spacing / times) (nat_abs x) ≡ too_much times spacing x
 unfolding too_much
 too_much_is times spacing x p =
-    beyond_size (100 * spacing / times) x
-    ∙ ltb_same (100 * spacing / times) (nat_abs x) (100 * spacing) (times * nat_abs x) (λ l. omega (arith, (div-lt_iff_lt-mul p).0 l)) (λ l. (div-lt_iff_lt-mul p).1 (omega arith))
+    ltb_same (100 * spacing / times) (nat_abs x) (100 * spacing) (times * nat_abs x) (λ l. omega (arith, (div-lt_iff_lt-mul p).0 l)) (λ l. (div-lt_iff_lt-mul p).1 (omega arith))
 
 -- a shift in its range
 pub in_range : {x : ℤ} → beyond_range x ≡ false → Within max_shift x
@@ -74,7 +73,7 @@ module _ (s : Shape) (some_cols : 0 < s.cols) (k : ℕ) where
       omega (arith, div-add-mod k s.cols, mul-le-mul_left s.cols q)
 
 -- the neighbours, as the code looks for them in a slice that is cut to the nodes
-module _ {s : Shape} {S : List ℤ} (c : Component s S) (k : ℕ) where
+module _ {s : Shape} {S : List ℤ} (c : Judgeable s S) (k : ℕ) where
   pub east_there : 0 < s.cols → k < s.rows * s.cols → has_east s k ≡ true → ltb (k + 1) (length S) ≡ true
   east_there some_cols l e = lt-ltb (k + 1) (length S) (omega (arith, c.cut, east_in s some_cols k l e))
 
@@ -121,10 +120,6 @@ sound s S r g =
       untwisted = λ k e f. ltb-false _ _ (second_fails (ltb (k % s.cols + 1) s.cols && ltb (k + s.cols) (s.rows * s.cols)) _ (g k (omega arith)).2 (rw (lt-ltb _ _ e, lt-ltb _ _ f)));
     }
 
--- what `number_at` gave
-pub node_in : {n : ℕ} {S : List ℤ} → InRange n S → {k : ℕ} → k < n → {r : ℤ} → r ≡ node S k → Within max_shift r
-node_in i {k} l e = subst (Within max_shift) (sym e) (i.range k l)
-
--- the whole of a slice that is cut to the nodes
-pub all_ranged : {s : Shape} {S : List ℤ} → Component s S → InRange (length S) S
-all_ranged {S = S} c = subst (λ (n : ℕ). InRange n S) (sym c.cut) c.ranged
+-- a shift of a component is in its range
+pub in_component : {s : Shape} {S : List ℤ} → Judgeable s S → (k : ℕ) → k < length S → Within max_shift (node S k)
+in_component c k l = c.ranged.range k (omega (arith, c.cut))

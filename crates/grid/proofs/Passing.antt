@@ -1,22 +1,50 @@
 -- Laws of the checks: each answer of the code, and what a grid that passes has. Theorems use these, never the text of `verdict`.
 use Prim.Native.Nat.{ℕ, ◌*◌, ◌≤◌, ◌<◌}
-use mathlib.Core.Path.{◌≡◌, sym, ◌∙◌}
-use mathlib.Core.Bool.{Bool, false, not, ◌||◌}
+use mathlib.Core.Path.{◌≡◌, refl, sym, ap, ◌∙◌}
+use mathlib.Core.Bool.{Bool, true, false, ◌||◌}
 use native.Mathlib.Omega.{arith}
-use lib.Dec.{ltb, eqb}
-use borrow.Author.Tests.{ltb-false, lt-ltb, le-ltb, not-false, ne_eqb, eqb-true}
+use Rattle.std.specs.Prelude.{Option, Some, None, MatchOption, cond}
+use lib.Dec.{ltb}
+use borrow.Author.Tests.{ltb-false, lt-ltb, le-ltb}
 use Rattle.laws.specs.First.{first, first_is, first-none}
 use Rattle.laws.specs.Logic.{neither}
-use Rattle.figures.specs.Outcome.{Outcome, answered, refused}
-use Rattle.figures.proofs.Laws.{both_answered, not_refused, passed_first}
+use Rattle.figures.specs.Outcome.{Outcome, answered, refused, refuse_if}
+use Rattle.figures.proofs.Laws.{same_answer, both_answered, not_refused, passed_first}
 use Rattle.grid.specs.Grid.{Nodes, node_room, Grid}
 use Rattle.grid.specs.Rules.{broken_rule, shape, node_count}
 use Rattle.grid.specs.Nodes.{node, beyond_range, out_of_range, steep_east, steep_north, steep_at, twisted, twisted_at}
-use Rattle.grid.specs.Check.{layout, refuse_lowest, smoothness, nodes_verdict, verdict, Passes}
-use Rattle.grid.specs.Needs.{InRange}
+use Rattle.grid.specs.Check.{header_check, layout, refuse_at, lowest, smoothness, nodes_verdict, verdict, Passes}
+use Rattle.grid.specs.Needs.{Extent, InRange}
+use Rattle.grid.specs.declared.Header.{Header}
 use Rattle.grid.specs.declared.Shape.{Shape}
-use Rattle.grid.proofs.RuleLaws.{RulesHold, rules_hold}
+use Rattle.grid.proofs.RuleLaws.{RulesHold, rules_hold, extent}
 use Rattle.grid.proofs.NodeLaws.{in_range, Sound, sound}
+
+-- ---- the header's
+
+-- where the outcome is an answer, nothing was found
+not_refused_at : {A : Type 0} (number : ℕ) {k : Option ℕ} {next : Outcome A} {a : A} → refuse_at number k next ≡ answered a → (k ≡ None) × (next ≡ answered a)
+not_refused_at number {k = None} e = (refl, e)
+not_refused_at number {k = Some k} e = cc
+
+-- the sizes that the check of a header gave
+pub record Sizes (h : Header) (s : Shape) : Type 0 where
+  pub unbroken : broken_rule h ≡ None
+  pub is : s ≡ shape h
+  pub extent : Extent s
+
+pub sizes : {h : Header} {s : Shape} → answered s ≡ header_check h → Sizes h s
+sizes {h} {s} e =
+    let p = not_refused_at 2 {k = broken_rule h} (sym e) in
+    let i : s ≡ shape h = sym (same_answer p.1) in
+    record { unbroken = p.0; is = i; extent = rw i (extent (rules_hold h p.0)) }
+
+pub header_broken : (h : Header) {n k : ℕ} → refused n k ≡ header_check h → (n ≡ 2) × (broken_rule h ≡ Some k)
+header_broken h e = go (broken_rule h) refl e
+  where
+    go : {n k : ℕ} (o : Option ℕ) → broken_rule h ≡ o → refused n k ≡ refuse_at 2 o (answered (shape h)) → (n ≡ 2) × (broken_rule h ≡ Some k)
+    go (Some j) q e = (cc, q ∙ cc)
+    go None q e = cc
 
 -- ---- each answer of the code
 
@@ -24,34 +52,32 @@ module _ (g : Grid) where
   abbrev n : ℕ
   n = (shape g.header).rows * (shape g.header).cols
 
-  pub rule_broken : {r : ℕ} → r ≡ broken_rule g.header → (r ≡ 0 → ⊥) → refused 2 r ≡ layout g
+  pub room : broken_rule g.header ≡ None → n ≤ node_room g.nodes → answered tt ≡ layout g
   unfolding layout
-  rule_broken e z = rw (← e, ne_eqb _ _ z)
+  room e l = rw (e, le-ltb _ _ l)
 
-  module _ (e : broken_rule g.header ≡ 0) where
-    pub short : node_room g.nodes < n → refused 5 n ≡ layout g
-    unfolding layout
-    short l = rw (e, lt-ltb _ _ l)
+  pub short : broken_rule g.header ≡ None → node_room g.nodes < n → refused 5 n ≡ layout g
+  unfolding layout
+  short e l = rw (e, lt-ltb _ _ l)
 
-    pub room : n ≤ node_room g.nodes → answered tt ≡ layout g
-    unfolding layout
-    room l = rw (e, le-ltb _ _ l)
+-- a search from 0 up for the lowest number at which a test holds
+pub found_lowest : (n : ℕ) (test : ℕ → Bool) (r : Option ℕ)
+    → MatchOption r ((k : ℕ) → 0 ≤ k → k < n → test k ≡ false) (λ i. (0 ≤ i) × (i < n) × (test i ≡ true) × ((k : ℕ) → 0 ≤ k → k < i → test k ≡ false))
+    → r ≡ lowest n test
+found_lowest n test None h = rw (← first_is test n n (omega arith) (λ k l. h k (omega arith) l) (λ l. absurd (omega arith)), le-ltb n n (omega arith))
+found_lowest n test (Some i) h = rw (← first_is test n i (omega arith) (λ k l. h.3 k (omega arith) l) (λ l. h.2), lt-ltb i n h.1)
 
--- a search for the lowest node at which a test holds came to `f`
-module _ {n f : ℕ} (number : ℕ) (test : ℕ → Bool) (next : Outcome Unit) (e : f ≡ first test n) where
-  pub lowest_refused : f < n → refused number f ≡ refuse_lowest n number test next
-  lowest_refused l = rw (← e, lt-ltb _ _ l)
+-- it found none
+pub none_found : (n : ℕ) (test : ℕ → Bool) → lowest n test ≡ None → (j : ℕ) → j < n → test j ≡ false
+none_found n test e = go (ltb (first test n) n) refl e
+  where
+    go : (t : Bool) → ltb (first test n) n ≡ t → cond t (Some (first test n)) None ≡ None → (j : ℕ) → j < n → test j ≡ false
+    go false q e = first-none test n q
+    go true q e = cc
 
-  pub none_refused : n ≤ f → next ≡ refuse_lowest n number test next
-  none_refused l = rw (← e, le-ltb _ _ l)
-
-pub none_found : {n f : ℕ} (test : ℕ → Bool) → f ≡ first test n → n ≤ f → (j : ℕ) → j < n → test j ≡ false
-none_found {n} test e l = first-none test n (rw (← e) (le-ltb _ _ l))
-
--- where the outcome is an answer, it came to the end
-lowest_passed : (n number : ℕ) (test : ℕ → Bool) (next : Outcome Unit) → refuse_lowest n number test next ≡ answered tt
+lowest_passed : (n number : ℕ) (test : ℕ → Bool) (next : Outcome Unit) → refuse_at number (lowest n test) next ≡ answered tt
     → ((j : ℕ) → j < n → test j ≡ false) × (next ≡ answered tt)
-lowest_passed n number test next e = let t = not_refused (ltb (first test n) n) number (first test n) next e in (first-none test n t.0, t.1)
+lowest_passed n number test next e = let t = not_refused_at number {k = lowest n test} e in (none_found n test t.0, t.1)
 
 pub ranges : {n : ℕ} (ns : Nodes) → ((j : ℕ) → j < n → out_of_range ns j ≡ false) → InRange n ns.lat × InRange n ns.lon
 unfolding out_of_range
@@ -62,7 +88,7 @@ ranges {n} ns none =
 -- ---- what the checks leave
 
 pub record Laid (g : Grid) : Type 0 where
-  pub unbroken : broken_rule g.header ≡ 0
+  pub unbroken : broken_rule g.header ≡ None
   pub header : RulesHold g.header
   pub has_room : node_count g.header ≤ node_room g.nodes
 
@@ -70,14 +96,14 @@ pub laid : (g : Grid) → layout g ≡ answered tt → Laid g
 unfolding layout
 laid g e =
     let n = (shape g.header).rows * (shape g.header).cols in
-    let s = not_refused (not (eqb (broken_rule g.header) 0)) _ _ _ e in
+    let s = both_answered (header_check g.header) (refuse_if (ltb (node_room g.nodes) n) 5 n (answered tt)) e in
+    let z = sizes (sym s.0.1) in
     let t = not_refused (ltb (node_room g.nodes) n) _ _ _ s.1 in
-    let z = eqb-true (broken_rule g.header) 0 (not-false (eqb (broken_rule g.header) 0) s.0) in
-    record { unbroken = z; header = rules_hold g.header z; has_room = ltb-false _ _ t.0 }
+    record { unbroken = z.unbroken; header = rules_hold g.header z.unbroken; has_room = ltb-false _ _ t.0 }
 
 pub record Good (g : Grid) : Type 0 where
   pub laid_out : layout g ≡ answered tt
-  pub unbroken : broken_rule g.header ≡ 0
+  pub unbroken : broken_rule g.header ≡ None
   pub header : RulesHold g.header
   pub of_lat : Sound (shape g.header) g.nodes.lat
   pub of_lon : Sound (shape g.header) g.nodes.lon
@@ -115,13 +141,14 @@ good g e =
 
 module _ (g : Grid) where
   -- where the others pass, it decides
-  pub smoothness-left : broken_rule g.header ≡ 0 → node_count g.header ≤ node_room g.nodes
+  pub smoothness-left : broken_rule g.header ≡ None → node_count g.header ≤ node_room g.nodes
       → ((k : ℕ) → k < node_count g.header → out_of_range g.nodes k ≡ false) → verdict g ≡ smoothness (shape g.header) g.nodes
   unfolding verdict nodes_verdict
   smoothness-left e r ranged =
       let count = node_count g.header in
       let none : count ≡ first (out_of_range g.nodes) count = first_is (out_of_range g.nodes) count count (omega arith) ranged (λ l. absurd (omega arith)) in
-      sym (passed_first _ (room g e r)) ∙ sym (none_refused 3 _ _ none (omega arith))
+      let far : lowest count (out_of_range g.nodes) ≡ None = rw (← none, le-ltb count count (omega arith)) in
+      sym (passed_first _ (room g e r)) ∙ ap (λ (k : Option ℕ). refuse_at 3 k (smoothness (shape g.header) g.nodes)) far
 
   pub passes_smoothness : Passes g → smoothness (shape g.header) g.nodes ≡ answered tt
   unfolding verdict nodes_verdict

@@ -1,21 +1,19 @@
 -- Laws of the header rules: what each test of the code tells, and what a header that breaks no rule has.
-use Prim.Native.Nat.{ℕ, suc, ◌*◌, ◌≤◌}
-use mathlib.Core.Path.{◌≡◌, refl, sym, subst, ap, ◌∙◌}
+use Prim.Native.Nat.{ℕ, suc, ◌*◌, ◌≤◌, ◌<◌}
+use mathlib.Core.Path.{◌≡◌, refl, sym, ap, ◌∙◌}
 use mathlib.Core.Bool.{Bool, true, false, not}
 use mathlib.Core.List.{List, [], ◌∷◌}
 use native.Mathlib.Omega.{arith}
-use borrow.Author.Tests.{eq-eqb, not-true, not-false}
-use mir.Syntax.{w64}
-use mir.Val.{SFits}
-use mir.Facts.{to_z-of_z}
-use lib.Dec.{T, leb, leb→le}
+use borrow.Author.Tests.{ltb-true, ltb-false}
+use Rattle.std.specs.Prelude.{Option, Some, None, cond, ◌++◌, length, ◌+◌}
+use Rattle.std.specs.List.{position, position_or_len}
+use lib.Dec.{T, leb, ltb, leb→le}
 use lib.IntN.{ℤ, pos, negsuc, nat_abs, ◌*ℤ◌}
 use lib.Signed.{le_z, ◌≤ℤ◌, ◌<ℤ◌}
 use Rattle.laws.specs.Parts.{pos_part, Within, ints, parts_disjoint}
 use Rattle.laws.specs.Bounds.{own_size, widen}
-use Rattle.laws.specs.Expr.{machine}
 use Rattle.laws.specs.Logic.{both, le_z_true, le_z_false, le_z_holds}
-use Rattle.grid.specs.Rules.{minus, between, last_node, first_false, broken_rule, north_edge, shape, node_count, node_count_or0}
+use Rattle.grid.specs.Rules.{minus, between, bounds, size_rules, rules, first_false, broken_rule, north_edge, shape, node_count, node_count_or0}
 use Rattle.grid.specs.Needs.{Extent}
 use Rattle.grid.specs.declared.Header.{Header}
 
@@ -47,57 +45,20 @@ between_within K b l h = omega (arith, ints)
 -- ---- the first rule that is broken
 
 -- a rule that holds is passed, and the first that does not is the answer. A record, so that its arguments are inferred
-pub record First (n : ℕ) (l : List Bool) (k : ℕ) : Type 0 where
+pub record First (n : ℕ) (l : List Bool) (k : Option ℕ) : Type 0 where
   pub is : k ≡ first_false n l
 
-pub pass : {n k : ℕ} {b : Bool} {l : List Bool} → b ≡ true → First (suc n) l k → First n (b ∷ l) k
+pub pass : {n : ℕ} {k : Option ℕ} {b : Bool} {l : List Bool} → b ≡ true → First (suc n) l k → First n (b ∷ l) k
 unfolding first_false
 pass e h = record { is = rw e h.is }
 
-pub stop : {n : ℕ} {b : Bool} {l : List Bool} → b ≡ false → First n (b ∷ l) n
+pub stop : {n : ℕ} {b : Bool} {l : List Bool} → b ≡ false → First n (b ∷ l) (Some n)
 unfolding first_false
 stop e = record { is = rw e }
 
-pub none : {n : ℕ} → First n [] 0
+pub none : {n : ℕ} → First n [] None
 unfolding first_false
 none = record { is = refl }
-
-pub first_of : {n : ℕ} {l : List Bool} {k : ℕ} → First n l k → k ≡ first_false n l
-first_of h = h.is
-
--- what a test of the code tells: `if !between(lo, x, hi)`, and `if !at_most(x, y)` of an `x` that the code has as `v`
-pub between_yes : (lo hi : ℤ) {x : ℤ} {b : Bool} → SFits w64 x → b ≡ between lo (machine x) hi → not b ≡ false → between lo x hi ≡ true
-between_yes lo hi f e n = ap (λ z. between lo z hi) (sym (to_z-of_z f)) ∙ sym e ∙ not-false _ n
-
-pub between_no : (lo hi : ℤ) {x : ℤ} {b : Bool} → SFits w64 x → b ≡ between lo (machine x) hi → not b ≡ true → between lo x hi ≡ false
-between_no lo hi f e n = ap (λ z. between lo z hi) (sym (to_z-of_z f)) ∙ sym e ∙ not-true _ n
-
-pub at_most_yes : (y : ℤ) {v x : ℤ} {b : Bool} → v ≡ x → b ≡ le_z v y → not b ≡ false → le_z x y ≡ true
-at_most_yes y r e n = ap (λ z. le_z z y) (sym r) ∙ sym e ∙ not-false _ n
-
-pub at_most_no : (y : ℤ) {v x : ℤ} {b : Bool} → v ≡ x → b ≡ le_z v y → not b ≡ true → le_z x y ≡ false
-at_most_no y r e n = ap (λ z. le_z z y) (sym r) ∙ sym e ∙ not-true _ n
-
--- and where the code's test is the call itself
-pub between_told : (lo hi : ℤ) {x : ℤ} {b : Bool} → SFits w64 x → b ≡ between lo (machine x) hi → b ≡ true → between lo x hi ≡ true
-between_told lo hi f e n = between_yes lo hi f e (ap not n)
-
-pub between_denied : (lo hi : ℤ) {x : ℤ} {b : Bool} → SFits w64 x → b ≡ between lo (machine x) hi → b ≡ false → between lo x hi ≡ false
-between_denied lo hi f e n = between_no lo hi f e (ap not n)
-
-pub at_most_told : (y : ℤ) {v x : ℤ} {b : Bool} → v ≡ x → b ≡ le_z v y → b ≡ true → le_z x y ≡ true
-at_most_told y r e n = at_most_yes y r e (ap not n)
-
-pub at_most_denied : (y : ℤ) {v x : ℤ} {b : Bool} → v ≡ x → b ≡ le_z v y → b ≡ false → le_z x y ≡ false
-at_most_denied y r e n = at_most_no y r e (ap not n)
-
-pub ruleset tests = (first_of, pass, stop, none, between_yes, between_no, at_most_yes, at_most_no)
-
-pub last_node_is : {from step n r : ℤ} → SFits w64 from → SFits w64 step → SFits w64 n → r ≡ last_node (machine from) (machine step) (machine n) → r ≡ last_node from step n
-last_node_is f g h e = e ∙ (λ i. last_node (to_z-of_z f i) (to_z-of_z g i) (to_z-of_z h i))
-
-pub bounded_by : (lo hi : ℤ) (K : ℕ) {x : ℤ} → SFits w64 x → between lo x hi ≡ true → T (leb (nat_abs lo) K) → T (leb (nat_abs hi) K) → Within K (machine x)
-bounded_by lo hi K f e s t = subst (Within K) (sym (to_z-of_z f)) (between_within K (between_holds e) (widen (own_size lo) s) (widen (own_size hi) t))
 
 -- ---- a header that breaks no rule
 
@@ -111,12 +72,12 @@ pub record RulesHold (h : Header) : Type 0 where
   pub nodes : (h.rows *ℤ h.cols) ≤ℤ pos 2048
   pub north : north_edge h ≤ℤ pos 323940000
 
-holds : {n : ℕ} {b : Bool} {l : List Bool} → First (suc n) (b ∷ l) 0 → (b ≡ true) × First (suc (suc n)) l 0
+holds : {n : ℕ} {b : Bool} {l : List Bool} → First n (b ∷ l) None → (b ≡ true) × First (suc n) l None
 unfolding first_false
 holds {b = true} h = (refl, record { is = h.is })
-holds {b = false} h = absurd (omega (arith, h.is))
+holds {b = false} h = let e : Some _ ≡ None = sym h.is in cc
 
-pub rules_hold : (h : Header) → broken_rule h ≡ 0 → RulesHold h
+pub rules_hold : (h : Header) → broken_rule h ≡ None → RulesHold h
 unfolding broken_rule
 rules_hold h e =
     let r₁ = holds (record { is = sym e }) in
@@ -138,6 +99,63 @@ rules_hold h e =
       north = le_z_holds r₈.0;
     }
 
+-- ---- rules 1 to 6, as the code looks for the first that is broken
+
+found_among : (n : ℕ) (l m : List Bool) → position_or_len not l < length l → first_false n (l ++ m) ≡ Some (n + position_or_len not l)
+unfolding first_false
+found_among n [] m h = absurd (omega arith)
+found_among n (true ∷ l) m h = found_among (suc n) l m (omega arith) ∙ ap Some (omega arith)
+found_among n (false ∷ l) m h = ap Some (omega arith)
+
+none_among : (n : ℕ) (l m : List Bool) → length l ≤ position_or_len not l → first_false n (l ++ m) ≡ first_false (n + length l) m
+unfolding first_false
+none_among n [] m h = ap (λ (k : ℕ). first_false k m) (omega arith)
+none_among n (true ∷ l) m h = none_among (suc n) l m (omega arith) ∙ ap (λ (k : ℕ). first_false k m) (omega arith)
+none_among n (false ∷ l) m h = absurd (omega arith)
+
+pub bound_broken : (h : Header) {k : ℕ} → Some k ≡ position not (bounds h) → Some (k + 1) ≡ broken_rule h
+unfolding broken_rule
+bound_broken h {k} e = go (ltb (position_or_len not (bounds h)) 6) refl e
+  where
+    go : (t : Bool) → ltb (position_or_len not (bounds h)) 6 ≡ t → Some k ≡ cond t (Some (position_or_len not (bounds h))) None → Some (k + 1) ≡ first_false 1 (rules h)
+    go true q e = let i : k ≡ position_or_len not (bounds h) = cc in ap Some (omega arith) ∙ sym (found_among 1 (bounds h) (size_rules h) (ltb-true _ _ q))
+    go false q e = cc
+
+-- what they leave of the numbers of rules 7 and 8
+pub record Bounded (h : Header) : Type 0 where
+  pub south : Within 323940000 h.south.0
+  pub dlat : Within 900000 h.dlat
+  pub rows : Within 256 h.rows
+  pub cols : Within 256 h.cols
+  pub rest : first_false 7 (size_rules h) ≡ broken_rule h
+
+within : (lo hi : ℤ) (K : ℕ) {x : ℤ} → Between lo x hi → T (leb (nat_abs lo) K) → T (leb (nat_abs hi) K) → Within K x
+within lo hi K b s t = between_within K b (widen (own_size lo) s) (widen (own_size hi) t)
+
+pub bounded : (h : Header) → None ≡ position not (bounds h) → Bounded h
+unfolding broken_rule first_false
+bounded h e = go (ltb (position_or_len not (bounds h)) 6) refl e
+  where
+    go : (t : Bool) → ltb (position_or_len not (bounds h)) 6 ≡ t → None ≡ cond t (Some (position_or_len not (bounds h))) None → Bounded h
+    go true q e = cc
+    go false q e =
+        let none : First 1 (bounds h) None = record { is = sym (none_among 1 (bounds h) [] (ltb-false _ _ q)) } in
+        let r₁ = holds none in
+        let r₂ = holds r₁.1 in
+        let r₃ = holds r₂.1 in
+        let r₄ = holds r₃.1 in
+        let r₅ = holds r₄.1 in
+        let r₆ = holds r₅.1 in
+        record {
+          south = within (minus 323940000) (pos 323940000) 323940000 (between_holds r₁.0) tt tt;
+          dlat = within (pos 1000) (pos 900000) 900000 (between_holds r₃.0) tt tt;
+          rows = within (pos 2) (pos 256) 256 (between_holds r₅.0) tt tt;
+          cols = within (pos 2) (pos 256) 256 (between_holds r₆.0) tt tt;
+          rest = sym (none_among 1 (bounds h) (size_rules h) (ltb-false _ _ q));
+        }
+
+-- ---- the sizes
+
 product : {m n : ℤ} {K : ℕ} → pos 2 ≤ℤ m → pos 2 ≤ℤ n → (m *ℤ n) ≤ℤ pos K → pos_part m * pos_part n ≤ K
 product {m = pos a} {n = pos b} p q h = leb→le _ _ h.le
 product {m = pos a} {n = negsuc b} p q h = absurd q.le
@@ -158,6 +176,6 @@ extent {h} k =
     }
 
 -- the nodes of a header that breaks no rule
-pub node_count_is : (h : Header) → broken_rule h ≡ 0 → node_count_or0 h ≡ node_count h
+pub node_count_is : (h : Header) → broken_rule h ≡ None → node_count_or0 h ≡ node_count h
 unfolding node_count_or0
-node_count_is h e = rw (eq-eqb (broken_rule h) 0 e)
+node_count_is h e = rw e

@@ -1,38 +1,42 @@
 -- The checks of a grid as one ordered list (document 01, "When the answer is no"; document 02, request 11): 2, 5, 3, 4, 14.
-use Rattle.std.specs.Prelude.{ℕ, ◌*◌, ◌≡◌, Bool, not, ltb, eqb}
+use Rattle.std.specs.Prelude.{ℕ, ◌*◌, ◌≡◌, Bool, cond, Option, Some, None, ltb}
 use Rattle.laws.specs.First.{first}
-use Rattle.figures.specs.Outcome.{Outcome, answered, refusal, and_then, refuse_if}
+use Rattle.figures.specs.Outcome.{Outcome, answered, refused, and_then, refuse_if}
 use Rattle.grid.specs.Grid.{Nodes, node_room, Grid}
 use Rattle.grid.specs.Rules.{broken_rule, shape}
 use Rattle.grid.specs.Nodes.{out_of_range, steep_at, twisted_at}
+use Rattle.grid.specs.declared.Header.{Header}
 use Rattle.grid.specs.declared.Shape.{Shape}
-use Rattle.grid.specs.declared.Checked.{Checked}
 
-abbrev pub check_outcome : Checked → Outcome Unit
-check_outcome Checked.Passes = answered tt
-check_outcome (Checked.Refused w) = refusal w
+-- refused by `number` at the place, if there is one; or else the outcome of what is judged next
+abbrev pub refuse_at : {A : Type 0} → (number : ℕ) → Option ℕ → (next : Outcome A) → Outcome A
+refuse_at number (Some k) next = refused number k
+refuse_at number None next = next
 
--- "a header rule is broken", at the first; "a lent node slice is shorter than rows × cols"
+-- "a header rule is broken", at the first; or else the header's sizes
+abbrev pub header_check : Header → Outcome Shape
+header_check h = refuse_at 2 (broken_rule h) (answered (shape h))
+
+-- that; "a lent node slice is shorter than rows × cols"
 unfoldable pub layout : Grid → Outcome Unit
 layout g =
     let n = (shape g.header).rows * (shape g.header).cols in
-    refuse_if (not (eqb (broken_rule g.header) 0)) 2 (broken_rule g.header)
-    (refuse_if (ltb (node_room g.nodes) n) 5 n (answered tt))
+    and_then (header_check g.header) (refuse_if (ltb (node_room g.nodes) n) 5 n (answered tt))
 
--- refused by `number` at the lowest of `n` nodes at which the test holds; or else the outcome of what is judged next
-abbrev pub refuse_lowest : (n number : ℕ) → (test : ℕ → Bool) → (next : Outcome Unit) → Outcome Unit
-refuse_lowest n number test next = refuse_if (ltb (first test n) n) number (first test n) next
+-- the lowest number below `n` at which the test holds
+abbrev pub lowest : (n : ℕ) → (test : ℕ → Bool) → Option ℕ
+lowest n test = cond (ltb (first test n) n) (Some (first test n)) None
 
 -- "a node is too steep to its east or north neighbour"; then "14, the lowest southwest node of such a cell, directly after 4"
 unfoldable pub smoothness : Shape → Nodes → Outcome Unit
 smoothness s ns =
     let n = s.rows * s.cols in
-    refuse_lowest n 4 (steep_at s ns)
-    (refuse_lowest n 14 (twisted_at s ns) (answered tt))
+    refuse_at 4 (lowest n (steep_at s ns))
+    (refuse_at 14 (lowest n (twisted_at s ns)) (answered tt))
 
 -- "a shift is beyond its range"; then smoothness
 unfoldable pub nodes_verdict : Shape → Nodes → Outcome Unit
-nodes_verdict s ns = refuse_lowest (s.rows * s.cols) 3 (out_of_range ns) (smoothness s ns)
+nodes_verdict s ns = refuse_at 3 (lowest (s.rows * s.cols) (out_of_range ns)) (smoothness s ns)
 
 unfoldable pub verdict : Grid → Outcome Unit
 verdict g = and_then (layout g) (nodes_verdict (shape g.header) g.nodes)

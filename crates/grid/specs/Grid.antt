@@ -48,7 +48,7 @@ pub record Grid : Type 0 where
 abbrev pub grid_with : Header → Nodes → Grid
 grid_with h ns = record { header = h; nodes = ns }
 
--- as a function is lent it
+-- of two lists of shifts
 abbrev pub grid_of : Header → (lat lon : List ℤ) → Grid
 grid_of h lat lon = grid_with h (node_lists lat lon)
 

@@ -3,3 +3,4 @@ pub mod Grid
 pub mod Nodes
 pub mod Check
 pub mod Needs
+pub mod Lent

@@ -1,26 +1,23 @@
 // The checks that look at no node: 2, then 5.
 ghost use Rattle.std.specs.Prelude.{◌≡◌};
-ghost use Rattle.grid.specs.Grid.{grid_of};
-ghost use Rattle.grid.specs.Check.{check_outcome, layout};
+ghost use Rattle.figures.specs.Outcome.{outcome, map_answer};
+ghost use Rattle.grid.specs.Lent.{lent};
+ghost use Rattle.grid.specs.Rules.{shape};
+ghost use Rattle.grid.specs.Check.{layout};
 
-use super::{Checked, Header};
+use super::{Grid, Shape};
 use figures::Refusal;
 
-#[tactic(auto, unfolding(crate::specs::Check::layout))]
-pub fn check<'a>(h: Header, lat: &'a [i64], lon: &'a [i64]) -> Checked
-    ensures { check_outcome result ≡ layout (grid_of h lat.now lon.now) }
-{
-    let rule = h.broken_rule();
-    if rule != 0 {
-        return Checked::Refused(Refusal::Rule(rule));
+impl<'a> Grid<'a> {
+    // Where they pass, the header's sizes.
+    pub fn check_layout(self) -> Result<Shape, Refusal>
+        ensures { outcome result ≡ map_answer (λ passed. shape self.entry.header) (layout (lent self.entry)) }
+    {
+        let shape = self.header.check()?;
+        let n = shape.rows * shape.cols;
+        if self.lat.len() < n || self.lon.len() < n {
+            return Err(Refusal::NodeRoom(n));
+        }
+        Ok(shape)
     }
-    let shape = h.shape();
-    let n = shape.rows * shape.cols;
-    if lat.len() < n {
-        return Checked::Refused(Refusal::NodeRoom(n));
-    }
-    if lon.len() < n {
-        return Checked::Refused(Refusal::NodeRoom(n));
-    }
-    Checked::Passes
 }

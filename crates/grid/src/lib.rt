@@ -3,18 +3,20 @@
 // second. Nodes run from the southernmost row north, each row from west to east.
 #![tactic(auto)]
 
-mod changes;
-pub mod layout;
+mod checked;
+mod component;
+mod layout;
 mod nodes;
 mod rules;
-mod steepness;
-mod twist;
 
-ghost use Rattle.std.specs.Prelude.{◌≡◌};
-ghost use Rattle.grid.specs.Grid.{header, grid_of};
-ghost use Rattle.grid.specs.Check.{check_outcome, verdict};
+ghost use Rattle.std.specs.Prelude.{◌≡◌, IfOk};
+ghost use Rattle.figures.specs.Outcome.{outcome, map_answer};
+ghost use Rattle.grid.specs.Grid.{header};
+ghost use Rattle.grid.specs.Lent.{lent};
+ghost use Rattle.grid.specs.Check.{verdict};
 ghost use Rattle.grid.specs.Nodes.{beyond_range};
 
+pub use checked::CheckedGrid;
 use figures::{Nad27, Refusal};
 
 // South and west edge, spacing of rows and columns in thousandths of an arc second, number of rows and columns.
@@ -52,32 +54,34 @@ pub struct Shape {
     pub dlon: usize,
 }
 
-// The largest size of a shift, 60 arc seconds.
-pub const MAX_SHIFT: i64 = 6_000_000;
-
+// A grid as a function is lent it.
 #[derive(Clone, Copy)]
-pub enum Checked {
-    Passes,
-    Refused(Refusal),
+pub struct Grid<'a> {
+    pub header: Header,
+    pub lat: &'a [i64],
+    pub lon: &'a [i64],
 }
 
-// The checks of a grid, in the order 2, 5, 3, 4, 14: the first that it fails.
-pub fn check<'a>(h: Header, lat: &'a [i64], lon: &'a [i64]) -> Checked
-    ensures { check_outcome result ≡ verdict (grid_of h lat.now lon.now) }
-{
-    match layout::check(h, lat, lon) {
-        Checked::Refused(why) => Checked::Refused(why),
-        Checked::Passes => {
-            let shape = h.shape();
-            let n = shape.rows * shape.cols;
-            nodes::check_nodes(shape, &lat[..n], &lon[..n])
-        }
+impl<'a> Grid<'a> {
+    // The checks, in the order 2, 5, 3, 4, 14: the first that the grid fails.
+    pub fn check(self) -> Result<CheckedGrid<'a>, Refusal>
+        ensures verdict { map_answer (λ checked. tt) (outcome result) ≡ verdict (lent self.entry) }
+        ensures same { IfOk result (λ checked. lent checked.grid ≡ lent self.entry) }
+    {
+        let shape = self.check_layout()?;
+        let n = shape.rows * shape.cols;
+        nodes::check(shape, &self.lat[..n], &self.lon[..n])?;
+        Ok(CheckedGrid { grid: self })
     }
 }
 
+// The largest size of a shift, 60 arc seconds.
+pub const MAX_SHIFT: i64 = 6_000_000;
+
 // Whether a shift is beyond its range.
+#[tactic(auto, unfolding(crate::specs::Nodes::beyond_range, crate::specs::Rules::between))]
 pub fn beyond_range(shift: i64) -> bool
     ensures { result ≡ beyond_range shift }
 {
-    !rules::between(-MAX_SHIFT, shift, MAX_SHIFT)
+    !(-MAX_SHIFT..=MAX_SHIFT).contains(&shift)
 }

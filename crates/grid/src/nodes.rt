@@ -1,78 +1,51 @@
 // The checks of the nodes, each over all of them before the next: range, then steepness, then twist.
-ghost use Rattle.std.specs.Prelude.{◌≡◌, ◌*◌, ◌<◌, length};
-ghost use Rattle.laws.specs.First.{first};
+ghost use Rattle.std.specs.Prelude.{◌≡◌, ◌*◌, length};
+ghost use Rattle.figures.specs.Outcome.{outcome};
 ghost use Rattle.grid.specs.Grid.{node_lists};
-ghost use Rattle.grid.specs.Nodes.{out_of_range};
-ghost use Rattle.grid.specs.Check.{check_outcome, nodes_verdict};
-ghost use Rattle.grid.specs.Needs.{Extent, fails_at, Judgeable};
+ghost use Rattle.grid.specs.Nodes.{out_of_range, steep_at, twisted_at};
+ghost use Rattle.grid.specs.Check.{lowest, nodes_verdict};
+ghost use Rattle.grid.specs.Needs.{Extent};
 
-use super::steepness::steep_at;
-use super::twist::twisted_at;
-use super::{Checked, Shape, beyond_range};
+use super::component::{Component, steep_at};
+use super::{Shape, beyond_range};
 use figures::Refusal;
-use slices::number_at;
 
-// What the nodes are judged for.
-#[derive(Clone, Copy)]
-pub(crate) enum NodeCheck {
-    Range,
-    Steepness,
-    Twist,
-}
-
-pub(crate) fn check_nodes<'a>(shape: Shape, lat: &'a [i64], lon: &'a [i64]) -> Checked
+#[tactic(auto, unfolding(crate::specs::Check::nodes_verdict, crate::specs::Check::smoothness))]
+pub(crate) fn check<'a>(shape: Shape, lat: &'a [i64], lon: &'a [i64]) -> Result<(), Refusal>
     requires { (Extent shape) × (length lat.now ≡ shape.rows * shape.cols) × (length lon.now ≡ shape.rows * shape.cols) }
-    ensures { check_outcome result ≡ nodes_verdict shape (node_lists lat.now lon.now) }
+    ensures { outcome result ≡ nodes_verdict shape (node_lists lat.now lon.now) }
 {
-    let n = shape.rows * shape.cols;
-    let far = first_failing(NodeCheck::Range, shape, lat, lon);
-    if far < n {
-        return Checked::Refused(Refusal::Range(far));
+    if let Some(node) = lowest_out_of_range(lat, lon) {
+        return Err(Refusal::Range(node));
     }
-    let steep = first_failing(NodeCheck::Steepness, shape, lat, lon);
-    if steep < n {
-        return Checked::Refused(Refusal::Steep(steep));
+    let lat = Component { shape, shifts: lat };
+    let lon = Component { shape, shifts: lon };
+    if let Some(node) = lowest_steep(lat, lon) {
+        return Err(Refusal::Steep(node));
     }
-    let twisted = first_failing(NodeCheck::Twist, shape, lat, lon);
-    if twisted < n {
-        return Checked::Refused(Refusal::Twist(twisted));
+    if let Some(node) = lowest_twisted(lat, lon) {
+        return Err(Refusal::Twist(node));
     }
-    Checked::Passes
+    Ok(())
 }
 
-// The lowest node that fails the check, or the number of nodes.
-fn first_failing<'a>(check: NodeCheck, shape: Shape, lat: &'a [i64], lon: &'a [i64]) -> usize
-    requires { (Extent shape) × (Judgeable check shape (node_lists lat.now lon.now)) }
-    ensures { result ≡ first (fails_at check shape (node_lists lat.now lon.now)) (shape.rows * shape.cols) }
+fn lowest_out_of_range(lat: &[i64], lon: &[i64]) -> Option<usize>
+    requires { length lat.now ≡ length lon.now }
+    ensures { result ≡ lowest (length lat.now) (out_of_range (node_lists lat.now lon.now)) }
 {
-    let n = shape.rows * shape.cols;
-    let mut k: usize = 0;
-    while k < n {
-        if fails(check, shape, lat, lon, k) {
-            return k;
-        }
-        k += 1;
-    }
-    k
+    (0..lat.len()).find(|k| beyond_range(lat[*k]) || beyond_range(lon[*k]))
 }
 
-fn fails<'a>(check: NodeCheck, shape: Shape, lat: &'a [i64], lon: &'a [i64], k: usize) -> bool
-    requires { (Extent shape) × (Judgeable check shape (node_lists lat.now lon.now)) × (k < shape.rows * shape.cols) }
-    ensures { result ≡ fails_at check shape (node_lists lat.now lon.now) k }
+fn lowest_steep(lat: Component, lon: Component) -> Option<usize>
+    requires { lat.shape ≡ lon.shape }
+    ensures { result ≡ lowest (length lat.entry.shifts.now) (steep_at lat.entry.shape (node_lists lat.entry.shifts.now lon.entry.shifts.now)) }
 {
-    match check {
-        NodeCheck::Range => out_of_range(lat, lon, k),
-        NodeCheck::Steepness => steep_at(shape, lat, lon, k),
-        NodeCheck::Twist => twisted_at(shape, lat, lon, k),
-    }
+    (0..lat.shifts.len()).find(|k| steep_at(lat, lon, *k))
 }
 
-// Whether node `k` has a shift beyond its range.
-fn out_of_range<'a>(lat: &'a [i64], lon: &'a [i64], k: usize) -> bool
-    ensures { result ≡ out_of_range (node_lists lat.now lon.now) k }
+fn lowest_twisted(lat: Component, lon: Component) -> Option<usize>
+    requires { lat.shape ≡ lon.shape }
+    ensures { result ≡ lowest (length lat.entry.shifts.now) (twisted_at lat.entry.shape (node_lists lat.entry.shifts.now lon.entry.shifts.now)) }
 {
-    if beyond_range(number_at(lat, k)) {
-        return true;
-    }
-    beyond_range(number_at(lon, k))
+    (0..lat.shifts.len()).find(|k| lat.twisted(*k) || lon.twisted(*k))
 }
