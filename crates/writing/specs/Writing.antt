@@ -40,6 +40,14 @@ pub record Added (part : List ℕ) (at : ℕ) (before after : List ℕ) (end : �
   pub kept : length after ≡ length before
   pub wrote : at + length part ≤ length before → after ≡ take at before ++ over part (drop at before)
 
--- each call of `f`, at any room, puts the text
-pub record Puts {F : Type 0} (g : Shared F (MutBor (List ℕ) × Unit {0}) (ℕ × (MutBor (List ℕ) × Unit {0}))) (f : F) (text : List ℕ) : Type 0 where
-  pub each : (before after : MutBor (List ℕ)) (count : ℕ) → g.post f (before, tt) (count, (after, tt)) → Put text before.now after.now count
+module _ {F : Type 0} (g : Shared F (MutBor (List ℕ) × Unit {0}) (ℕ × (MutBor (List ℕ) × Unit {0}))) (f : F) where
+  -- each call of `f`, at any room, puts the text
+  pub record Puts (text : List ℕ) : Type 0 where
+    pub each : (before after : MutBor (List ℕ)) (count : ℕ) → g.post f (before, tt) (count, (after, tt)) → Put text before.now after.now count
+
+  -- a call of `f`, which tells what holds whatever the room is
+  pub record Called : Type 0 where
+    pub before : MutBor (List ℕ)
+    pub after : MutBor (List ℕ)
+    pub count : ℕ
+    pub met : g.post f (before, tt) (count, (after, tt))

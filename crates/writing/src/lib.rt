@@ -3,7 +3,7 @@
 #![tactic(auto)]
 
 ghost use Rattle.std.specs.Prelude.{ℕ, List, length, ◌≤◌};
-ghost use Rattle.writing.specs.Writing.{Wrote, Put, Puts, Added};
+ghost use Rattle.writing.specs.Writing.{Wrote, Put, Puts, Called, Added};
 
 use figures::Refusal;
 
@@ -31,7 +31,8 @@ pub fn write<F: Fn(&mut [u8]) -> usize>(
     put: F,
 ) -> Result<usize, Refusal>
     requires { F.IsAlwaysCallable put }
-    ensures { (text : List ℕ) → Puts F.Fn put text → (enough ≤ length room.old → length text ≤ length room.old) → Wrote text room.old room.new result }
+    ensures wrote { (text : List ℕ) → Puts F.Fn put text → (enough ≤ length room.old → length text ≤ length room.old) → Wrote text room.old room.new result }
+    ensures called { Called F.Fn put }
 {
     if room.len() < enough {
         let needed = put(&mut room[..0]);
@@ -45,7 +46,8 @@ pub fn write<F: Fn(&mut [u8]) -> usize>(
 // Puts a part into what the first `at` bytes leave of the room. The answer is the place behind the part.
 pub fn put_behind<F: Fn(&mut [u8]) -> usize>(at: usize, room: &mut [u8], put: F) -> usize
     requires { F.IsAlwaysCallable put }
-    ensures { (part : List ℕ) → Puts F.Fn put part → Added part at room.old room.new result }
+    ensures added { (part : List ℕ) → Puts F.Fn put part → Added part at room.old room.new result }
+    ensures called { Called F.Fn put }
 {
     let from = at.min(room.len());
     at.saturating_add(put(&mut room[from..]))

@@ -4,4 +4,4 @@ use Rattle.decimal.proofs.Lengths.{length_i64}
 use Rattle.decimal.proofs.write_number.Goals as goal
 
 pub returns : goal.returns
-returns c = c.write.ensures (spell c.args.x) (record { each = λ before after n p. search rules }) (λ h. omega (arith, length_i64 c.ranges.x))
+returns c = c.write.ensures.wrote (spell c.args.x) (record { each = λ before after n p. search rules }) (λ h. omega (arith, length_i64 c.ranges.x))

@@ -1,6 +1,8 @@
-use Rattle.std.proofs.Common.{arith}
-use Rattle.writing.proofs.Laws.{wrote_fits}
+use Rattle.std.proofs.Common.{arith, rules}
+use Rattle.lines.specs.Text.{line}
 use Rattle.lines.proofs.write_line.Goals as goal
 
 pub returns : goal.returns
-returns c = wrote_fits c.put_line.ensures.put (omega (arith, c.put_line.ensures.short)) (omega arith)
+returns c =
+    let called = c.write.ensures.called.met in
+    c.write.ensures.wrote (line c.args.key.now c.args.numbers.now) (record { each = λ before after n q. search rules }) (λ h. omega arith)

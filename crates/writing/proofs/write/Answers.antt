@@ -3,15 +3,15 @@ use Rattle.writing.proofs.Laws.{counted_room, wrote_short, wrote_fits}
 use Rattle.writing.proofs.write.Goals.{then-room-enough+else-room-needed, else-room-enough}
 use Rattle.writing.proofs.write.Goals as goal
 
-pub returns-then-room-needed : goal.returns-then-room-needed
-returns-then-room-needed g c text puts long_enough =
+pub returns-then-room-needed-clause-wrote : goal.returns-then-room-needed-clause-wrote
+returns-then-room-needed-clause-wrote g c text puts long_enough =
     let room = c.args.room.now in
     let p = puts.each _ _ _ c.put-needed.ensures in
     let same = counted_room room p in
     rw same (wrote_short text room p.counted (omega (arith, ap length same, p.counted)))
 
-pub returns : goal.returns
-returns g c text puts long_enough =
+pub returns-clause-wrote : goal.returns-clause-wrote
+returns-clause-wrote g c text puts long_enough =
     let room = c.args.room.now in
     let p = puts.each _ _ _ c.put.ensures in
     elim c.if-room-enough.branch [

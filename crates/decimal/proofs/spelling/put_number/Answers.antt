@@ -12,4 +12,4 @@ pub returns : goal.returns
 returns c =
     let p : Put (45 ∷ []) c.args.room.now c.put.new.s 1 = rw c.put.ensures (put_more 45 (put_nothing c.args.room.now) (omega arith) (omega arith)) in
     rw (spell-minus c.ranges.x c.unsigned_abs-size.ensures.value c.if-x-ge0.false)
-    (put_added p (c.put_behind.ensures (digits c.unsigned_abs-size.result) (record { each = λ before after n q. search rules })) (omega arith))
+    (put_added p (c.put_behind.ensures.added (digits c.unsigned_abs-size.result) (record { each = λ before after n q. search rules })) (omega arith))
