@@ -17,8 +17,9 @@
 //     long_sheet          a sheet of 48,001 bytes, one more than is read
 #![tactic(auto)]
 
-use script::text::{piece, put_all};
+use arrayvec::ArrayVec;
 use std::env::{Env, FillError};
+use std::io::Write;
 use std::rt::Files;
 use std::{fmt, fs, io, str};
 
@@ -41,23 +42,21 @@ fn main(rt: HostRuntime) -> io::Result<()> {
 fn list_in<R: Files + Print + Eprint>(rt: &R, folder: &[u8]) -> io::Result<()> {
     rt.write_all(folder)?;
     rt.write_all(b"\n")?;
-    let mut sheet = [0u8; PATH];
-    let mut requests = [0u8; PATH];
-    let sheet_end = join(folder, b"/sheet.txt", &mut sheet);
-    let requests_end = join(folder, b"/requests.txt", &mut requests);
-    match open(rt, piece(&requests, 0, requests_end)) {
-        Ok(mut file) => match list_io::run(rt, piece(&sheet, 0, sheet_end), &mut file) {
-            Ok(()) => Ok(()),
-            Err(why) => tell(rt, folder, why),
-        },
+    match open(rt, &join(folder, b"/requests.txt")) {
+        Ok(mut file) => list_io::run(rt, &join(folder, b"/sheet.txt"), &mut file).or_else(
+            |why| tell(rt, folder, why),
+        ),
         Err(why) => tell(rt, folder, why),
     }
 }
 
-// A folder's name and then a file's, in `path`. Answers its length.
-fn join<'a>(folder: &'a [u8], file: &'a [u8], path: &mut [u8]) -> usize {
-    let n = put_all(path, 0, folder);
-    put_all(path, n, file)
+// A folder's name and then a file's, as far as there is room.
+fn join(folder: &[u8], file: &[u8]) -> ArrayVec<u8, PATH> {
+    let mut path = ArrayVec::new();
+    for part in [folder, file] {
+        let _ = path.write(part);
+    }
+    path
 }
 
 // A path has to be text.

@@ -3,7 +3,7 @@
 #![tactic(auto)]
 
 use grid_reader::GridRead;
-use script::input::read_full;
+use input::read_full;
 use std::io;
 
 fn main(rt: HostRuntime) -> io::Result<()> {

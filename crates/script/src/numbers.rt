@@ -1,101 +1,36 @@
-// Numbers of a script.
-ghost use Rattle.std.specs.Prelude.{◌≡◌, ◌≤◌, length};
+// Numbers of a text, with a byte between.
+ghost use Rattle.std.specs.Prelude.{◌≡◌, length};
+ghost use Rattle.std.specs.Iterator.{at_most};
 
-use super::text::{after, byte_at};
+use super::cursor::Cursor;
 
-// A number, and the place behind it.
-#[derive(Clone, Copy)]
-pub struct Count {
-    pub value: usize,
-    pub next: usize,
-}
+// The most shifts of a component: those of a grid with a row too many, 33 rows of 64 nodes.
+pub const SHIFTS: usize = 2112;
 
 #[derive(Clone, Copy)]
-pub struct Whole {
-    pub value: i64,
-    pub next: usize,
+pub struct Numbers<'a> {
+    pub text: Cursor<'a>,
 }
 
-// Two numbers with a byte between, and the place behind them.
-#[derive(Clone, Copy)]
-pub struct Pair {
-    pub first: usize,
-    pub second: usize,
-    pub next: usize,
-}
-
-// Room for the shifts of a grid, and of one with a row too many: 33 rows of 64 nodes.
-pub fn shifts() -> [i64; 2112]
-    ensures { 2112 ≡ length result }
-{
-    [0; 2112]
-}
-
-pub fn unsigned(s: &[u8], from: usize) -> Count
-    ensures { from ≤ result.next }
-{
-    let mut value: usize = 0;
-    let mut i = from;
-    while i < s.len() {
-        let byte = s[i];
-        if !is_digit(byte) {
-            return Count { value, next: i };
+impl<'a> Numbers<'a> {
+    pub fn new(text: &'a [u8]) -> Numbers<'a>
+        ensures { result.text.rest.now ≡ text.now }
+    {
+        Numbers {
+            text: Cursor::new(text),
         }
-        value = more(value, byte);
-        i += 1;
-    }
-    Count { value, next: i }
-}
-
-fn is_digit(byte: u8) -> bool {
-    if byte < b'0' { false } else { byte <= b'9' }
-}
-
-// A number with one digit more. Numbers have at most nineteen digits.
-fn more(value: usize, digit: u8) -> usize {
-    value % 1_000_000_000_000_000_000 * 10 + (digit % 16) as usize
-}
-
-pub fn unsigned_pair(s: &[u8], from: usize) -> Pair
-    ensures { from ≤ result.next }
-{
-    let first = unsigned(s, from);
-    let second = unsigned(s, after(s, first.next));
-    Pair {
-        first: first.value,
-        second: second.value,
-        next: second.next,
     }
 }
 
-// A number from the least `i64` to the greatest. One beyond them counts as the nearer of the two.
-pub fn signed(s: &[u8], from: usize) -> Whole
-    ensures { from ≤ result.next }
-{
-    if byte_at(s, from) == b'-' {
-        let number = unsigned(s, after(s, from));
-        return Whole {
-            value: minus(number.value),
-            next: number.next,
-        };
-    }
-    let number = unsigned(s, from);
-    Whole {
-        value: plus(number.value),
-        next: number.next,
-    }
-}
+impl<'a> Iterator for Numbers<'a> {
+    type Item = i64;
 
-fn plus(value: usize) -> i64 {
-    if value < 0x7fff_ffff_ffff_ffff {
-        return value as i64;
-    }
-    0x7fff_ffff_ffff_ffff
-}
+    ghost remaining = { λ s. at_most (length s.text.rest.now) };
 
-fn minus(value: usize) -> i64 {
-    if value < 0x8000_0000_0000_0000 {
-        return 0 - value as i64;
+    fn next(&mut self) -> Option<i64> {
+        if self.text.rest.is_empty() {
+            return None;
+        }
+        Some(self.text.signed())
     }
-    -0x8000_0000_0000_0000
 }

@@ -1,78 +1,91 @@
 // What a case came to, beside what the script says of it.
-ghost use Rattle.std.specs.Prelude.{◌≡◌};
-ghost use Rattle.figures.specs.Refusal.{number_of, place_of};
-ghost use Rattle.script.specs.Outcome.{agrees};
+ghost use Rattle.std.specs.Prelude.{◌≡◌, ◌-◌, ◌≤◌, ◌↔◌, length, IsTrue, Some, None};
+ghost use Rattle.script.specs.Outcome.{refused_by, outcome_of, Agrees};
 
-use super::report::Report;
+use super::cursor::Cursor;
 use figures::Refusal;
+use std::fmt;
 
-// The number and the place of the refusal, or 0 and 0. `same` says whether everything else is as it should be.
-#[derive(Clone, Copy)]
-pub struct Outcome {
+// A refusal as a script has it: `NUMBER,PLACE`.
+#[derive(Clone, Copy, Debug, PartialEq, Eq)]
+pub struct Refused {
     pub number: usize,
     pub place: usize,
+}
+
+impl Refused {
+    // `0,0` stands for no refusal.
+    pub fn read(text: &mut Cursor) -> Option<Refused>
+        ensures { length text.new.rest.now ≤ length text.old.rest.now - 1 }
+    {
+        match text.pair() {
+            (0, 0) => None,
+            (number, place) => Some(Refused { number, place }),
+        }
+    }
+}
+
+impl From<Refusal> for Refused {
+    ghost from_gives = { λ why r. r ≡ refused_by why };
+
+    fn from(why: Refusal) -> Refused {
+        Refused {
+            number: why.number(),
+            place: why.place(),
+        }
+    }
+}
+
+// The refusal, if there was one. `same` says whether everything else, as an answer, is as it should be.
+#[derive(Clone, Copy)]
+pub struct Outcome {
+    pub refusal: Option<Refused>,
     pub same: bool,
 }
 
 impl Outcome {
     pub fn refused(why: Refusal, same: bool) -> Outcome
-        ensures { (result.number ≡ number_of why) × (result.place ≡ place_of why) × (result.same ≡ same) }
+        ensures { (result.refusal ≡ Some (refused_by why)) × (result.same ≡ same) }
     {
         Outcome {
-            number: why.number(),
-            place: why.place(),
+            refusal: Some(Refused::from(why)),
             same,
         }
     }
 
     pub fn answered(same: bool) -> Outcome
-        ensures { (result.number ≡ 0) × (result.place ≡ 0) × (result.same ≡ same) }
+        ensures { (result.refusal ≡ None) × (result.same ≡ same) }
     {
         Outcome {
-            number: 0,
-            place: 0,
+            refusal: None,
             same,
         }
     }
 
-    // Whether a case came to this number and place, and a line for it where it did not.
-    pub fn agrees<R: Print>(
-        self,
-        line: &[u8],
-        number: usize,
-        place: usize,
-        report: &mut Report<R>,
-    ) -> bool
-        ensures { result ≡ agrees self number place }
+    // Whether a case came to this refusal, or to none.
+    pub fn is(self, wanted: Option<Refused>) -> bool
+        ensures { IsTrue result ↔ Agrees self wanted }
     {
-        let right = self.is(number, place);
-        if !right {
-            self.print(line, report);
-        }
-        right
+        self.same && self.refusal == wanted
     }
+}
 
-    // Whether a case came to this number and place.
-    #[tactic(auto, unfolding(crate::specs::Outcome::agrees))]
-    pub fn is(self, number: usize, place: usize) -> bool
-        ensures { result ≡ agrees self number place }
-    {
-        if self.same {
-            if self.number != number {
-                return false;
-            }
-            return self.place == place;
+// Of an answer it is known whether it is as it should be.
+impl From<Result<bool, Refusal>> for Outcome {
+    ghost from_gives = { λ answer came. came ≡ outcome_of answer };
+
+    fn from(answer: Result<bool, Refusal>) -> Outcome {
+        match answer {
+            Ok(same) => Outcome::answered(same),
+            Err(why) => Outcome::refused(why, true),
         }
-        false
     }
+}
 
-    fn print<R: Print>(self, line: &[u8], report: &mut Report<R>) {
-        report.text(b"wrong ");
-        report.text(line);
-        report.text(b" came=");
-        report.number(self.number as u64);
-        report.text(b",");
-        report.number(self.place as u64);
-        report.text(b"\n");
+// As a script has it.
+impl fmt::Display for Outcome {
+    fn fmt<W: fmt::Write>(&self, f: &mut fmt::Formatter<W>) -> fmt::Result {
+        let (number, place) = self.refusal.map_or((0, 0), |why| (why.number, why.place));
+        write!(f, "{number},{place}")
     }
 }

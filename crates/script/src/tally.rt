@@ -2,7 +2,7 @@
 ghost use Rattle.std.specs.Prelude.{◌≡◌};
 ghost use Rattle.script.specs.Tally.{one_more, fresh, counted_in};
 
-use super::report::Report;
+use std::fmt;
 
 #[derive(Clone, Copy)]
 pub struct Tally {
@@ -17,30 +17,19 @@ impl Tally {
         Tally { cases: 0, wrong: 0 }
     }
 
-    pub(crate) fn counted(self, right: bool) -> Tally
-        ensures { result ≡ counted_in right self }
+    pub(crate) fn count(&mut self, right: bool)
+        ensures { self.new ≡ counted_in right self.old }
     {
-        let cases = one_more(self.cases);
-        if right {
-            return Tally {
-                cases,
-                wrong: self.wrong,
-            };
-        }
-        Tally {
-            cases,
-            wrong: one_more(self.wrong),
+        self.cases = one_more(self.cases);
+        if !right {
+            self.wrong = one_more(self.wrong);
         }
     }
+}
 
-    // Prints a group's line.
-    pub(crate) fn print<R: Print>(self, name: &[u8], report: &mut Report<R>) {
-        report.text(name);
-        report.text(b": cases=");
-        report.number(self.cases);
-        report.text(b" wrong=");
-        report.number(self.wrong);
-        report.text(b"\n");
+impl fmt::Display for Tally {
+    fn fmt<W: fmt::Write>(&self, f: &mut fmt::Formatter<W>) -> fmt::Result {
+        write!(f, "cases={} wrong={}", self.cases, self.wrong)
     }
 }
 
@@ -48,8 +37,5 @@ impl Tally {
 fn one_more(n: u64) -> u64
     ensures { result ≡ one_more n }
 {
-    if n < 1_000_000 {
-        return n + 1;
-    }
-    1_000_000
+    n.saturating_add(1).min(1_000_000)
 }

@@ -1,74 +1,58 @@
-// Bytes of a text, and pieces of it.
-ghost use Rattle.std.specs.Prelude.{◌≡◌, ◌+◌, ◌-◌, ◌≤◌, max, length, get_or, set, take, drop};
-ghost use Rattle.slices.specs.Places.{index_of};
+// Texts as a script writes them. `\n`, `\r`, `\t`, `\0` and `\f` are a newline, a carriage return, a tab, a 0 and a 255, and
+// `[PIECE*TIMES]` is a piece that comes so many times.
+ghost use Rattle.std.specs.Prelude.{◌≤◌};
+ghost use Rattle.arrayvec.specs.ArrayVec.{array_vec_len};
 
-// A byte, or 0 behind the end.
-pub fn byte_at(s: &[u8], i: usize) -> u8
-    ensures { result ≡ get_or s.now i 0 }
+use super::cursor::Cursor;
+use arrayvec::ArrayVec;
+
+// Room for a text that is made of a script.
+pub type Text = ArrayVec<u8, 65_536>;
+
+// Writes a text behind what stands in `out`, as far as there is room.
+pub fn expand<const N: usize>(text: &[u8], out: &mut ArrayVec<u8, N>)
+    ensures { array_vec_len out.old ≤ array_vec_len out.new }
 {
-    if i < s.len() {
-        return s[i];
+    let mut text = Cursor::new(text);
+    // Where the piece that is repeated begins.
+    let mut mark = out.len();
+    while let Some(byte) = text.next() {
+        match byte {
+            b'[' => mark = out.len(),
+            b'*' => repeat(out, mark, text.unsigned()),
+            b'\\' => put(out, escaped(text.next().unwrap_or(0))),
+            _ => put(out, byte),
+        }
     }
-    0
 }
 
-// The place behind `i`, unless `i` is the end already.
-pub fn after(s: &[u8], i: usize) -> usize
-    ensures { (i ≤ result) × (result ≤ max i (length s.now)) }
-{
-    if i < s.len() {
-        return i + 1;
+fn escaped(letter: u8) -> u8 {
+    match letter {
+        b'n' => b'\n',
+        b'r' => b'\r',
+        b't' => b'\t',
+        b'0' => 0,
+        b'f' => 0xff,
+        _ => letter,
     }
-    i
 }
 
-// The bytes from `from` to `to`, as far as there are any.
-pub fn piece(s: &[u8], from: usize, to: usize) -> &[u8]
-    ensures { result.now ≡ take (to - from) (drop from s.now) }
+// One byte more, if there is room.
+fn put<const N: usize>(out: &mut ArrayVec<u8, N>, byte: u8)
+    ensures { array_vec_len out.old ≤ array_vec_len out.new }
 {
-    if to <= from {
-        return &s[0..0];
-    }
-    if to <= s.len() {
-        return &s[from..to];
-    }
-    rest(s, from)
+    let _ = out.try_push(byte);
 }
 
-// The bytes from `from` on.
-pub fn rest(s: &[u8], from: usize) -> &[u8]
-    ensures { result.now ≡ drop from s.now }
+// Writes the piece from `mark` on, which stands there once, so many times in all.
+fn repeat<const N: usize>(out: &mut ArrayVec<u8, N>, mark: usize, times: usize)
+    ensures { array_vec_len out.old ≤ array_vec_len out.new }
 {
-    if from <= s.len() {
-        return &s[from..];
+    let length = out.len().saturating_sub(mark);
+    let more = length.saturating_mul(times.saturating_sub(1));
+    for _ in 0..more.min(out.remaining_capacity()) {
+        if let Some(byte) = out.get(out.len().saturating_sub(length)).copied() {
+            put(out, byte);
+        }
     }
-    &s[0..0]
-}
-
-// The first place of a byte from `from` on, or the end.
-pub fn find(s: &[u8], from: usize, byte: u8) -> usize
-    ensures { (result ≡ from + index_of byte (drop from s.now)) × (result ≤ max from (length s.now)) }
-{
-    slices::find(s, from, byte)
-}
-
-// One byte more, if there is room. The answer is the next place.
-pub fn put(out: &mut [u8], at: usize, byte: u8) -> usize
-    ensures { (out.new ≡ set out.old at byte) × (at ≤ result) × (result ≤ max at (length out.old)) }
-{
-    slices::put_byte(out, at, byte);
-    after(out, at)
-}
-
-// As many bytes as there is room for.
-pub fn put_all(out: &mut [u8], at: usize, from: &[u8]) -> usize
-    ensures { (at ≤ result) × (result ≤ max at (length out.old)) }
-{
-    let mut end = at;
-    let mut i: usize = 0;
-    while i < from.len() {
-        end = put(out, end, from[i]);
-        i += 1;
-    }
-    end
 }
