@@ -5,7 +5,8 @@ mod replies;
 mod words;
 
 ghost use Rattle.std.specs.Prelude.{◌≡◌};
-ghost use Rattle.requests.specs.Requests.{asked_outcome, request_in};
+ghost use Rattle.figures.specs.Outcome.{outcome};
+ghost use Rattle.requests.specs.Requests.{request_in};
 
 use convert::Shifted;
 use figures::{Point27, Point83, Refusal};
@@ -18,14 +19,6 @@ pub enum Request {
     To27(Point83),
 }
 
-// What a line is.
-#[derive(Clone, Copy)]
-pub enum Asked {
-    Request(Request),
-    // 1. A request line is refused by its number alone, so it has no place: 0.
-    Refused(Refusal),
-}
-
 // A line of the list.
 #[derive(Clone, Copy)]
 pub enum Reply {
@@ -35,8 +28,8 @@ pub enum Reply {
     In27(Point27),
     // The number of a refusal.
     No(i64),
-    // The number and the place of a refusal: of the grid, in place of a list.
-    NoSheet(i64, i64),
+    // The grid is refused, and there is no list.
+    NoSheet(Refusal),
     // How many request lines were answered, and how many were refused.
     Done(i64, i64),
 }
@@ -44,12 +37,13 @@ pub enum Reply {
 // The longest line, without its newline.
 pub const MAX_LINE: usize = 64;
 
-// What a line asks, without its newline.
-pub fn read_request(line: &[u8]) -> Asked
-    ensures { asked_outcome result ≡ request_in line.now }
+// What a line asks, without its newline. A request line is refused by its number alone, so it has no place: 0.
+#[tactic(auto, unfolding(crate::specs::Requests::request_in))]
+pub fn read_request(line: &[u8]) -> Result<Request, Refusal>
+    ensures { outcome result ≡ request_in line.now }
 {
     if MAX_LINE < line.len() {
-        return Asked::Refused(Refusal::Form(0));
+        return Err(Refusal::Form(0));
     }
     words::read_line(line)
 }
