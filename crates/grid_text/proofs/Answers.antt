@@ -2,9 +2,10 @@
 use Prim.Native.Nat.{ℕ}
 use mathlib.Core.Path.{◌≡◌, refl}
 use mathlib.Core.List.{List}
-use Rattle.figures.specs.Outcome.{refused}
-use Rattle.writing.specs.Writing.{room_after, written_outcome, Wrote}
-use Rattle.writing.specs.declared.Written.{Written}
+use Rattle.std.specs.Prelude.{Result}
+use Rattle.figures.specs.Outcome.{refused, outcome}
+use Rattle.figures.specs.declared.Refusal.{Refusal}
+use Rattle.writing.specs.Writing.{room_after, Wrote}
 use Rattle.writing.proofs.Laws.{wrote_room}
 use Rattle.grid.specs.Grid.{Grid}
 use Rattle.grid.specs.Check.{verdict, Passes}
@@ -16,6 +17,6 @@ module _ (g : Grid) (room : List ℕ) where
   unfolding writing room_after
   checks_refuse e = (rw (← e), refl)
 
-  pub checks_pass : {after : List ℕ} {r : Written} → Passes g → Wrote (grid_text g) room after r → (written_outcome r ≡ writing g room) × (after ≡ room_after (written_outcome r) (grid_text g) room)
+  pub checks_pass : {after : List ℕ} {r : Result ℕ Refusal} → Passes g → Wrote (grid_text g) room after r → (outcome r ≡ writing g room) × (after ≡ room_after (outcome r) (grid_text g) room)
   unfolding writing
   checks_pass e w = (rw e w.answer, wrote_room w)

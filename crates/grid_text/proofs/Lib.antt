@@ -1,3 +1,4 @@
 pub mod NodeLines
 pub mod Lengths
+pub mod Added
 pub mod Answers

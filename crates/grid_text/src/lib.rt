@@ -4,35 +4,23 @@
 mod parts;
 
 ghost use Rattle.std.specs.Prelude.{◌≡◌};
-ghost use Rattle.writing.specs.Writing.{room_after, written_outcome, Wrote};
-ghost use Rattle.grid.specs.Grid.{grid_of};
-ghost use Rattle.grid.specs.Rules.{broken_rule};
+ghost use Rattle.figures.specs.Outcome.{outcome};
+ghost use Rattle.writing.specs.Writing.{room_after};
+ghost use Rattle.grid.specs.Lent.{lent};
 ghost use Rattle.grid_text.specs.Text.{grid_text};
 ghost use Rattle.grid_text.specs.Writing.{writing};
 
 use figures::Refusal;
-use grid::{Checked, Header};
-use writing::Written;
+use grid::Grid;
 
-// Writes a grid that passes the checks over the front of the room.
-pub fn write<'a>(h: Header, lat: &'a [i64], lon: &'a [i64], room: &mut [u8]) -> Written
-    ensures answer { written_outcome result ≡ writing (grid_of h lat.now lon.now) room.old }
-    ensures text { room.new ≡ room_after (written_outcome result) (grid_text (grid_of h lat.now lon.now)) room.old }
-{
-    match grid::check(h, lat, lon) {
-        Checked::Refused(why) => Written::Refused(why),
-        Checked::Passes => write_checked(h, lat, lon, room),
-    }
-}
+// No text of a grid has more bytes.
+const MOST: usize = 48_000;
 
-// Nothing is written before the whole text is known to fit.
-fn write_checked<'a>(h: Header, lat: &'a [i64], lon: &'a [i64], room: &mut [u8]) -> Written
-    requires { broken_rule h ≡ 0 }
-    ensures { Wrote (grid_text (grid_of h lat.now lon.now)) room.old room.new result }
+// Writes a grid that passes the checks over the front of the room. Nothing is written before the whole text is known to fit.
+pub fn write(grid: Grid, room: &mut [u8]) -> Result<usize, Refusal>
+    ensures answer { outcome result ≡ writing (lent grid.entry) room.old }
+    ensures text { room.new ≡ room_after (outcome result) (grid_text (lent grid.entry)) room.old }
 {
-    let needed = parts::put_grid(h, lat, lon, &mut room[0..0]);
-    if room.len() < needed {
-        return Written::Refused(Refusal::Room(needed));
-    }
-    Written::Bytes(parts::put_grid(h, lat, lon, room))
+    let checked = grid.check()?;
+    writing::write(MOST, room, |room| parts::put_grid(checked, room))
 }

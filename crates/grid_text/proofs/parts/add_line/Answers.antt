@@ -1,6 +1,6 @@
-use Rattle.std.proofs.Common.{arith}
-use Rattle.writing.proofs.Laws.{lent_short, added, wrote_put}
+use Rattle.std.proofs.Common.{[], ◌∷◌, rules}
+use Rattle.lines.specs.Text.{line}
 use Rattle.grid_text.proofs.parts.add_line.Goals as goal
 
 pub returns : goal.returns
-returns c = added c.least-from.ensures (wrote_put c.write_line.ensures c.bytes.ensures (lent_short c.least-from.result c.args.room.now (omega arith))) c.saturating_add.ensures
+returns c = c.put_behind.ensures.added (line c.args.key.now (c.args.x ∷ [])) (record { each = λ before after n q. search rules })

@@ -1,15 +1,9 @@
--- The lines of the first k nodes are put.
-use Rattle.std.proofs.Common.{◌-◌, ◌≤◌}
+-- The lines of the nodes so far are put.
+use Rattle.std.proofs.Common.{length}
 use Rattle.writing.specs.Writing.{Put}
-use Rattle.grid.specs.Grid.{node_lists}
+use Rattle.grid.specs.Lent.{lent}
 use Rattle.grid_text.specs.Text.{node_lines}
 use Rattle.grid_text.proofs.parts.put_nodes.Given as goal
 
-abbrev pub invariant-loop-k : goal.invariant-loop-k
-invariant-loop-k l = record {
-  in_range : l.k ≤ l.n;
-  put : Put (node_lines (node_lists l.lat l.lon) l.k) l.fn.room l.room l.at;
-}
-
-abbrev pub decreases-loop-k : goal.decreases-loop-k
-decreases-loop-k l = l.n - l.k
+abbrev pub invariant-loop-lat : goal.invariant-loop-lat
+invariant-loop-lat l = Put (node_lines (lent l.checked.grid).nodes (length l.yielded)) l.fn.room l.room l.at
