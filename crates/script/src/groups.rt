@@ -15,7 +15,8 @@ pub(crate) struct Groups<'a> {
 
 impl<'a> Groups<'a> {
     pub(crate) fn new() -> Groups<'a>
-        ensures { (result.group ≡ fresh) × (result.all ≡ fresh) }
+        ensures group { result.group ≡ fresh }
+        ensures all { result.all ≡ fresh }
     {
         Groups {
             name: None,
@@ -25,7 +26,8 @@ impl<'a> Groups<'a> {
     }
 
     pub(crate) fn begin(&mut self, name: &'a [u8])
-        ensures { (self.new.group ≡ fresh) × (self.new.all ≡ self.old.all) }
+        ensures group { self.new.group ≡ fresh }
+        ensures all { self.new.all ≡ self.old.all }
     {
         self.name = Some(name);
         self.group = Tally::new();
@@ -33,7 +35,8 @@ impl<'a> Groups<'a> {
 
     // One case more.
     pub(crate) fn count(&mut self, right: bool)
-        ensures { (self.new.group ≡ counted_in right self.old.group) × (self.new.all ≡ counted_in right self.old.all) }
+        ensures group { self.new.group ≡ counted_in right self.old.group }
+        ensures all { self.new.all ≡ counted_in right self.old.all }
     {
         self.group.count(right);
         self.all.count(right);

@@ -45,7 +45,8 @@ pub struct Outcome {
 
 impl Outcome {
     pub fn refused(why: Refusal, same: bool) -> Outcome
-        ensures { (result.refusal ≡ Some (refused_by why)) × (result.same ≡ same) }
+        ensures refusal { result.refusal ≡ Some (refused_by why) }
+        ensures same { result.same ≡ same }
     {
         Outcome {
             refusal: Some(Refused::from(why)),
@@ -54,7 +55,8 @@ impl Outcome {
     }
 
     pub fn answered(same: bool) -> Outcome
-        ensures { (result.refusal ≡ None) × (result.same ≡ same) }
+        ensures refusal { result.refusal ≡ None }
+        ensures same { result.same ≡ same }
     {
         Outcome {
             refusal: None,
