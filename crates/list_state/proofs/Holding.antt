@@ -1,76 +1,70 @@
 -- The line that a list holds: with more bytes, and as a request; and totals.
-use Prim.Native.Nat.{ℕ, zero, suc, ◌+◌, ◌-◌, ◌^◌, ◌≤◌, ◌<◌, min}
+use Prim.Native.Nat.{ℕ, ◌+◌, ◌-◌, ◌≤◌, ◌<◌, min}
 use mathlib.Core.Path.{◌≡◌, refl, sym, ap, ◌∙◌}
-use mathlib.Core.List.{List, [], ◌∷◌, ◌++◌}
+use mathlib.Core.List.{List, ◌++◌}
 use mathlib.Core.Logic.{⊎_elim}
 use native.Mathlib.Omega.{arith}
 use borrow.Author.Tests.{lt-ltb}
-use native.Mathlib.Nat.{le_refl, le_of_suc-le-suc}
-use borrow.Rule.Slice.PartMut.{mid_of, put_mid}
-use lib.ListN.{length, take, replicate, length-take, length-replicate}
-use lib.Seq.{take_all, length-take-le}
-use lib.IntN.{ℤ, pos, ◌+ℤ◌}
-use lib.Signed.{◌<ℤ◌}
+use lib.ListN.{length, take, drop, replicate, length-take, length-replicate, length-append}
+use Rattle.std.proofs.Common.{drop-drop}
+use Rattle.std.proofs.lemmas.List.{take_min}
+use lib.Seq.{sets, sets-eq, take_all, take-append-add, length-take-le}
+use lib.IntN.{ℤ, pos, negsuc, ◌+ℤ◌}
 use mir.Syntax.{w64}
 use mir.Val.{SFits}
+use Rattle.std.specs.Int.{saturate_signed}
 use Rattle.laws.specs.Logic.{lt_or_ge}
-use Rattle.laws.specs.Parts.{Within, ints}
-use Rattle.laws.specs.Expr.{Expr, linear, lit, fitting, cap, ◌⊕◌}
-use Rattle.laws.specs.Over.{over, length_over, over-take}
-use Rattle.writing.specs.Writing.{Wrote}
-use Rattle.writing.specs.declared.Written.{Written}
-use Rattle.writing.proofs.Laws.{lent_short, exact_count, wrote_put, put_rest}
+use Rattle.laws.specs.Parts.{ints}
+use Rattle.slices.proofs.Sets.{sets-take}
+use Rattle.laws.specs.Over.{over, length_over, over-take, over-drop}
 use Rattle.requests.specs.Requests.{other_form, request_in}
-use Rattle.list_state.specs.State.{listing_of, held_line}
+use Rattle.list_state.specs.State.{one_more, listing_of, held_line}
 use Rattle.list_state.specs.declared.Listing.{Listing}
 use Rattle.list_state.specs.declared.Totals.{Totals}
-
-pub same_listing : (l : List ℕ) {h : List ℕ} {n : ℕ} {t u : Totals} → h ≡ over l (replicate 65 0) → n ≡ length l → u ≡ t
-    → ◌≡◌ {A = Listing} (record { held = h; length = n; totals = u }) (listing_of l t)
-same_listing l p q u = λ i. record { held = p i; length = q i; totals = u i }
 
 -- ---- the line with more bytes
 
 pub at_most_65 : (l : List ℕ) → length (take 65 l) ≤ 65
 at_most_65 l = simp length-take (omega arith)
 
--- the first j elements of two lists
-take-over : (j : ℕ) (v w : List ℕ) → length v ≤ j → take j (v ++ w) ≡ v ++ take (j - length v) w
-take-over j [] w h = let e : j ≡ j - 0 = omega arith in ap (λ i. take i w) e
-take-over zero (b ∷ v) w h = absurd (omega arith)
-take-over (suc j) (b ∷ v) w h =
-    let e : j - length v ≡ suc j - suc (length v) = omega arith in
-    ap (λ t. b ∷ t) (take-over j v w (le_of_suc-le-suc h) ∙ ap (λ i. v ++ take i w) e)
+-- a text at the front of a room, and another behind it, as far as the room goes
+sets-more : (v w room : List ℕ) → length v ≤ length room → sets (sets room 0 v) (length v) w ≡ over (take (length room) (v ++ w)) room
+unfolding over
+sets-more v w room h =
+    let k = length v in
+    let j = length room - k in
+    let n = min j (length w) in
+    let u = take n w in
+    let l = over v room in
+    let long : length l ≡ length room = length_over v room h in
+    let short : length u ≡ n = length-take-le n w (omega arith) in
+    let front : sets room 0 v ≡ l = sets-eq v room 0 (omega arith) ∙ (let z : 0 + k ≡ k = omega arith in ap (λ j. v ++ drop j room) z) in
+    let e : length room ≡ k + j = omega arith in
+    let fit : take (length room) (v ++ w) ≡ v ++ u = ap (λ i. take i (v ++ w)) e ∙ take-append-add v w j ∙ ap (λ t. v ++ t) (sym (take_min j w)) in
+    let whole : length (v ++ u) ≡ k + n = simp length-append (omega arith) in
+    let behind : drop (k + n) l ≡ drop (k + n) room = simp drop-drop at (ap (drop n) (over-drop v room)) in
+    rw (front, fit)
+    (sym (sets-take w l k n (omega (arith, long)))
+    ∙ sets-eq u l k (omega (arith, long, short))
+    ∙ rw (over-take v room k refl, short, behind) (ap (λ j. (v ++ u) ++ drop j room) (sym whole)))
 
--- no more than there are
-take-least : (j : ℕ) (w : List ℕ) → take j w ≡ take (min (length w) j) w
-take-least j w =
-    ⊎_elim
-    (λ h. let e : min (length w) j ≡ j = omega arith in rw e)
-    (λ h. let e : min (length w) j ≡ length w = omega arith in take_all j w h ∙ rw e (sym (take_all (length w) w (le_refl (length w)))))
-    (lt_or_ge j (length w))
+-- a list with more bytes of its line
+pub held_more : (s : Listing) (part : List ℕ) {v m l : List ℕ} {n : ℕ} → length s.held ≡ 65 → v ≡ held_line s → n ≡ min (length v + length part) 65 → m ≡ sets (replicate 65 0) 0 v → l ≡ sets m (length v) part
+    → ◌≡◌ {A = Listing} (record { held = l; length = n; totals = s.totals }) (listing_of (take 65 (held_line s ++ part)) s.totals)
+held_more s part {v} {m} {l} {n} long e f g h =
+    let z : length (replicate {A = ℕ} 65 0) ≡ 65 = length-replicate {A = ℕ} 65 0 in
+    let c : length v ≤ 65 = rw e (omega (arith, length-take-le (min s.length 65) s.held (omega arith))) in
+    let p : l ≡ over (take 65 (v ++ part)) (replicate 65 0) = h ∙ rw g (rw z at (sets-more v part (replicate 65 0) (omega (arith, z, c)))) in
+    let q : n ≡ length (take 65 (v ++ part)) = simp (length-take, length-append) (omega arith) in
+    rw (← e) (λ i. record { held = p i; length = q i; totals = s.totals })
 
-module _ (s : Listing) (part : List ℕ) {k n : ℕ} (long : length s.held ≡ 65) (e : k ≡ min s.length 65) (f : n ≡ min (length part) (65 - k)) where
-  kept : length (take k s.held) ≡ k
-  kept = length-take-le k s.held (omega arith)
+-- ---- totals
 
-  line : take k s.held ++ take n part ≡ take 65 (held_line s ++ part)
-  line = rw (← e) (sym (take-over 65 (take k s.held) part (omega (arith, kept)) ∙ rw (kept, f) (ap (λ t. take k s.held ++ t) (take-least (65 - k) part))))
-
-  -- two texts, one behind the other; each has room
-  pub held_more : {m y : List ℕ} {p q : Written} → Wrote (take k s.held) (replicate 65 0) m p → Wrote (take n part) (mid_of k (65 - k) m) y q → (put_mid k (65 - k) m y ≡ over (take 65 (held_line s ++ part)) (replicate 65 0)) × (k + n ≡ length (take 65 (held_line s ++ part)))
-  held_more {m} {y} v w =
-      let z : length (replicate {A = ℕ} 65 0) ≡ 65 = length-replicate {A = ℕ} 65 0 in
-      let front = wrote_put v refl (omega (arith, z)) in
-      let d : length m - k ≡ 65 - k = omega (arith, front.kept, z) in
-      let g : length (take n part) ≡ n = length-take-le n part (omega arith) in
-      let back = wrote_put (rw (← d) at w) refl (lent_short k m (omega (arith, front.kept, z))) in
-      let i = exact_count front (omega (arith, kept)) ∙ kept in
-      let j = exact_count back (omega (arith, g)) ∙ g in
-      let all = put_rest {r = k + n} front (omega (arith, i, front.kept, z)) (omega (arith, z)) back (omega (arith, i, j)) in
-      let whole = rw line at (rw d at all) in
-      let l = at_most_65 (held_line s ++ part) in
-      (whole.wrote (omega (arith, z)), omega (arith, whole.counted))
+-- one more than a total that an `i64` holds
+pub counted_more : {x : ℤ} → SFits w64 x → saturate_signed w64 (x +ℤ pos 1) ≡ one_more x
+unfolding one_more
+counted_more {x = pos n} f = grind (arith, ints)
+counted_more {x = negsuc n} f = grind (arith, ints)
 
 -- ---- 65 bytes of a line are enough: a line above 64 is refused whatever it is
 
@@ -91,24 +85,3 @@ pub held_of : (l : List ℕ) (t : Totals) → length l ≤ 65 → held_line (lis
 held_of l t h =
     let e : min (length l) 65 ≡ length l = omega arith in
     ap (λ k. take k (over l (replicate 65 0))) e ∙ over-take l (replicate 65 0) (length l) refl
-
--- the line that is held stands at the front of the array
-pub held_front : (l : List ℕ) {s : Listing} {t : Totals} → s ≡ listing_of (take 65 l) t → (s.length ≤ length s.held) × (take s.length s.held ≡ take 65 l)
-held_front l e =
-    let v = take 65 l in
-    let z : length (replicate {A = ℕ} 65 0) ≡ 65 = length-replicate {A = ℕ} 65 0 in
-    let h = at_most_65 l in
-    rw e (omega (arith, length_over v (replicate 65 0) (omega (arith, z)), z), over-take v (replicate 65 0) (length v) refl)
-
--- ---- totals
-
-pub same_totals : {a b r s : ℤ} → a ≡ b → r ≡ s → ◌≡◌ {A = Totals} (record { answered = a; refused = r }) (record { answered = b; refused = s })
-same_totals p q = λ i. record { answered = p i; refused = q i }
-
--- one more than a number below the greatest
-module _ {x : ℤ} (f : SFits w64 x) (h : x <ℤ pos 9223372036854775807) where
-  pub above_within : Within (2 ^ 63 - 1) (x +ℤ pos 1)
-  above_within = omega (arith, ints, linear (fitting f ⊕ lit (pos 1)))
-
-  abbrev pub one_above : Expr (x +ℤ pos 1)
-  one_above = cap (fitting f ⊕ lit (pos 1)) above_within

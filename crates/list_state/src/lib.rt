@@ -2,18 +2,18 @@
 #![tactic(auto)]
 
 ghost use Rattle.std.specs.Prelude.{◌≡◌, [], ◌++◌, take};
-ghost use Rattle.writing.specs.Writing.{Wrote};
-ghost use Rattle.requests.specs.Requests.{request_in, asked_outcome};
-ghost use Rattle.list_state.specs.State.{one_more, counted, totals_reply, listing_of, fresh, held_line};
+ghost use Rattle.figures.specs.Outcome.{outcome};
+ghost use Rattle.requests.specs.Requests.{request_in};
+ghost use Rattle.list_state.specs.State.{counted, totals_reply, listing_of, fresh, held_line};
 
-use requests::{Asked, Reply};
-use slices::least;
-use writing::{Written, write_text};
+use figures::Refusal;
+use requests::{Reply, Request};
+use slices::put_all;
 
 #[derive(Clone, Copy)]
 pub struct Listing {
     // The first bytes of the line that has not ended, and how many. 65 stand for every line above 64 bytes.
-    held: [u8; 65],
+    held: [u8; HELD],
     pub length: usize,
     pub totals: Totals,
 }
@@ -24,6 +24,8 @@ pub struct Totals {
     pub answered: i64,
     pub refused: i64,
 }
+
+const HELD: usize = 65;
 
 impl Listing {
     // No byte was read yet.
@@ -37,11 +39,12 @@ impl Listing {
     }
 
     // No line is under way.
+    #[tactic(auto, unfolding(laws::specs::Over::over))]
     pub fn between(totals: Totals) -> Listing
         ensures { result ≡ listing_of [] totals }
     {
         Listing {
-            held: [0; 65],
+            held: [0; HELD],
             length: 0,
             totals,
         }
@@ -54,61 +57,55 @@ impl Listing {
         Listing::between(totals).hold(line)
     }
 
-    // Writes the line that has not ended, 65 bytes at the most.
-    pub fn write_line(self, room: &mut [u8]) -> Written
-        ensures { Wrote (held_line self) room.old room.new result }
+    // The line that has not ended, 65 bytes at the most.
+    pub fn line(&self) -> &[u8]
+        ensures { result.now ≡ held_line self.now }
     {
-        let held = self.held;
-        let n = least(self.length, 65);
-        write_text(&held[..n], room)
+        &self.held[..self.length.min(HELD)]
     }
 
     // With more bytes of its line, of which the first 65 are kept.
     pub fn hold(self, part: &[u8]) -> Listing
         ensures { result ≡ listing_of (take 65 (held_line self ++ part.now)) self.totals }
     {
-        let held = self.held;
-        let totals = self.totals;
-        let kept = least(self.length, 65);
-        let more = least(part.len(), 65 - kept);
-        let mut line = [0u8; 65];
-        write_text(&held[..kept], &mut line);
-        write_text(&part[..more], &mut line[kept..]);
+        let line = self.line();
+        let mut held = [0; HELD];
+        put_all(&mut held, 0, line);
+        put_all(&mut held, line.len(), part);
         Listing {
-            held: line,
-            length: kept + more,
-            totals,
+            held,
+            length: (line.len() + part.len()).min(HELD),
+            ..self
         }
     }
 
     // What its line asks, whose last bytes are `part`.
-    pub fn asks(self, part: &[u8]) -> Asked
-        ensures { asked_outcome result ≡ request_in (held_line self ++ part.now) }
+    pub fn asks(self, part: &[u8]) -> Result<Request, Refusal>
+        ensures { outcome result ≡ request_in (held_line self ++ part.now) }
     {
         if self.length == 0 {
             return requests::read_request(part);
         }
         let whole = self.hold(part);
-        let line = whole.held;
-        let n = whole.length;
-        requests::read_request(&line[..n])
+        requests::read_request(whole.line())
     }
 }
 
 impl Totals {
-    // With a line that has ended, and was replied to.
+    // With a line that has ended, and was replied to. A total stays at the greatest number there is.
+    #[tactic(auto, using(crate::proofs::Holding::counted_more))]
     pub fn count(self, reply: Reply) -> Totals
         ensures { result ≡ counted self reply }
     {
         if reply.is_answer() {
             return Totals {
-                answered: one_more(self.answered),
-                refused: self.refused,
+                answered: self.answered.saturating_add(1),
+                ..self
             };
         }
         Totals {
-            answered: self.answered,
-            refused: one_more(self.refused),
+            refused: self.refused.saturating_add(1),
+            ..self
         }
     }
 
@@ -118,14 +115,4 @@ impl Totals {
     {
         Reply::Done(self.answered, self.refused)
     }
-}
-
-// One line more. The total stays at the greatest number there is.
-fn one_more(x: i64) -> i64
-    ensures { result ≡ one_more x }
-{
-    if x < 9_223_372_036_854_775_807 {
-        return x + 1;
-    }
-    x
 }
