@@ -3,6 +3,7 @@ use Prim.Native.Nat.{ℕ}
 use mathlib.Core.Path.{◌≡◌, refl, sym, ap, subst, ◌∙◌}
 use mathlib.Core.Logic.{inr}
 use mathlib.Core.Bool.{Bool, true, false, cond}
+use Rattle.std.proofs.Common.{Option, Some, None}
 use Rattle.laws.specs.Logic.{not_both}
 use Rattle.figures.specs.Outcome.{answered, refused}
 use Rattle.figures.specs.Same.{same83}
@@ -14,7 +15,7 @@ use Rattle.grid.proofs.Passing.{Good, good}
 use Rattle.convert.specs.Points.{target_of}
 use Rattle.convert.specs.Convert.{answer, coordinates83, to27}
 use Rattle.convert.specs.Rounds.{candidate, settle, sought}
-use Rattle.convert.specs.declared.offsets.Place.{Place}
+use Rattle.convert.specs.declared.offsets.Spot.{Spot}
 use Rattle.convert.proofs.Places.{Target, target_at, target_inside}
 use Rattle.convert.proofs.Cases.{coordinates_on}
 use Rattle.convert.proofs.OnPassing.{answer_target}
@@ -25,8 +26,8 @@ module _ (g : Grid) (f : Point83) (e : Passes g) where
   ok : Good g
   ok = good g e
 
-  outside : Place.Outside ≡ target_of g.header f → (p : Point27) → coordinates83 g p ≡ answered f → ⊥
-  outside o p u =
+  beyond : None ≡ target_of g.header f → (p : Point27) → coordinates83 g p ≡ answered f → ⊥
+  beyond o p u =
       let a = answer_is g p u in
       target_inside g.header (answer g p) ok.header (answer_target ok p a.1) (o ∙ ap (target_of g.header) (sym a.2))
 
@@ -51,11 +52,11 @@ module _ (g : Grid) (f : Point83) (e : Passes g) where
               not_both w s,
         )
 
-  found : (a : Place) → a ≡ target_of g.header f → Returned g f (sought g f a)
+  found : (a : Option Spot) → a ≡ target_of g.header f → Returned g f (sought g f a)
   unfolding sought
-  found Place.Outside o = inr (e, refl, refl, outside o)
-  found (Place.At X Y) o = confirmed (target_at g.header f o)
+  found None o = inr (e, refl, refl, beyond o)
+  found (Some at) o = confirmed (target_at g.header f o)
 
   -- the search by rounds is the search of every point
-  pub sought_passes : {a : Place} → a ≡ target_of g.header f → sought g f a ≡ to27 g f
+  pub sought_passes : {a : Option Spot} → a ≡ target_of g.header f → sought g f a ≡ to27 g f
   sought_passes {a} o = returned_once g f (sought g f a) (to27 g f) (found a o) (returned g f)

@@ -1,6 +1,6 @@
 -- How the code finds the point of a figure: six rounds of a contraction come to a candidate, and the candidate's own answer decides. On a
 -- grid that passes the checks it comes to `to27`: the theorem `sought-passes`.
-use Rattle.std.specs.Prelude.{ℕ, cond}
+use Rattle.std.specs.Prelude.{ℕ, cond, Option, Some, None}
 use Rattle.bilinear.specs.Search.{iterate}
 use Rattle.figures.specs.Outcome.{Outcome, answered, refused}
 use Rattle.figures.specs.Same.{same83}
@@ -10,7 +10,7 @@ use Rattle.grid.specs.Rules.{shape}
 use Rattle.shift.specs.Shift.{component, raise}
 use Rattle.convert.specs.Points.{point_at, width, height}
 use Rattle.convert.specs.Convert.{answer}
-use Rattle.convert.specs.declared.offsets.Place.{Place}
+use Rattle.convert.specs.declared.offsets.Spot.{Spot}
 
 -- the raised shifts, which the rounds use
 unfoldable pub raised_lat : Grid → (x y : ℕ) → ℕ
@@ -27,7 +27,7 @@ candidate g X Y =
 abbrev pub settle : (f f' : Point83) → Point27 → Outcome Point27
 settle f f' p = cond (same83 f f') (answered p) (refused 7 0)
 
--- what is found for a figure `f`, which stands at a place among the answers that there could be
-unfoldable pub sought : Grid → Point83 → Place → Outcome Point27
-sought g f Place.Outside = refused 7 0
-sought g f (Place.At X Y) = settle f (answer g (candidate g X Y)) (candidate g X Y)
+-- what is found for a figure `f`, which stands at a place among the answers that there could be, or at none
+unfoldable pub sought : Grid → Point83 → Option Spot → Outcome Point27
+sought g f None = refused 7 0
+sought g f (Some at) = settle f (answer g (candidate g at.x at.y)) (candidate g at.x at.y)

@@ -6,7 +6,7 @@ use Rattle.figures.specs.Points.{point27, point83}
 use Rattle.grid.specs.Grid.{header, Grid, grid_of}
 use Rattle.grid.specs.Nodes.{out_of_range, twisted_at}
 use Rattle.grid.specs.Rules.{minus, shape}
-use Rattle.grid.specs.Check.{layout, refuse_lowest, verdict}
+use Rattle.grid.specs.Check.{layout, refuse_at, lowest, verdict}
 use Rattle.convert.specs.Convert.{answer}
 
 -- the checks with steepness left out, as `verdict` has them: 2, 5, 3, 14
@@ -14,7 +14,9 @@ abbrev pub other_checks : Grid → Outcome Unit
 other_checks g =
     let s = shape g.header in
     let n = s.rows * s.cols in
-    and_then (layout g) (refuse_lowest n 3 (out_of_range g.nodes) (refuse_lowest n 14 (twisted_at s g.nodes) (answered tt)))
+    and_then (layout g)
+    (refuse_at 3 (lowest n (out_of_range g.nodes))
+    (refuse_at 14 (lowest n (twisted_at s g.nodes)) (answered tt)))
 
 -- sheet Q's header, and shifts that fall by 200 for each thousandth, the latitude shift northward and the longitude shift eastward
 abbrev pub steep : Grid

@@ -9,22 +9,20 @@ pub(crate) fn place_of(half: usize, v: i64) -> i64
     ensures { (result ≡ place_of half v) × (Within 64800000000 result) }
 {
     if names(half, v) {
-        return v;
+        v
+    } else if v < 0 {
+        v + 2 * (half as i64)
+    } else {
+        v - 2 * (half as i64)
     }
-    if v < 0 {
-        return v + 2 * (half as i64);
-    }
-    v - 2 * (half as i64)
 }
 
 // Whether a number names a place.
+#[tactic(auto, unfolding(laws::specs::Circle::names))]
 fn names(half: usize, v: i64) -> bool
     requires { half ≤ 64800000000 }
     ensures { result ≡ names half v }
 {
     let end = half as i64;
-    if v < -end {
-        return false;
-    }
-    v < end
+    (-end..end).contains(&v)
 }

@@ -11,57 +11,38 @@ mod search;
 
 ghost use Rattle.std.specs.Prelude.{◌≡◌};
 ghost use Rattle.laws.specs.Parts.{Within};
-ghost use Rattle.grid.specs.Grid.{grid_of};
-ghost use Rattle.grid.specs.Check.{Passes};
+ghost use Rattle.figures.specs.Outcome.{outcome};
+ghost use Rattle.grid.specs.Lent.{lent};
 ghost use Rattle.shift.specs.Shift.{rounded_shift};
 ghost use Rattle.shift.specs.Needs.{ExactIn};
 ghost use Rattle.convert.specs.Points.{answer_of, shifted_by};
-ghost use Rattle.convert.specs.Convert.{numbers83, outcome83, outcome27, to83, to27};
-ghost use Rattle.convert.specs.Rounds.{settle};
+ghost use Rattle.convert.specs.Convert.{numbers83, to83, to27};
 ghost use Rattle.grid.specs.Nodes.{max_shift};
 
 use figures::{Point27, Point83, Refusal};
-use grid::{Checked, Header};
-use offsets::Place;
+use grid::{CheckedGrid, Grid};
+use search::Found;
 use shift::{ExactShift, Shift, Signs};
 
 // A point's answer: where it is in NAD 83, and for each coordinate the sign of the rounded shift minus the exact one.
-#[derive(Clone, Copy)]
+#[derive(Clone, Copy, PartialEq, Eq)]
 pub struct Shifted {
     pub point: Point83,
     pub signs: Signs,
 }
 
-#[derive(Clone, Copy)]
-pub enum Answer83 {
-    Point(Shifted),
-    Refused(Refusal),
-}
-
-#[derive(Clone, Copy)]
-pub enum Answer27 {
-    Point(Point27),
-    Refused(Refusal),
-}
-
 // A NAD 27 point's NAD 83 answer: 2, 5, 3, 4, 14, then 6.
-pub fn to83<'a>(h: Header, lat: &'a [i64], lon: &'a [i64], p: Point27) -> Answer83
-    ensures { outcome83 result ≡ to83 (grid_of h lat.now lon.now) p }
+pub fn to83(grid: Grid, p: Point27) -> Result<Shifted, Refusal>
+    ensures { outcome result ≡ to83 (lent grid.entry) p }
 {
-    match grid::check(h, lat, lon) {
-        Checked::Refused(why) => Answer83::Refused(why),
-        Checked::Passes => forward(h, lat, lon, p),
-    }
+    forward(grid.check()?, p)
 }
 
 // The NAD 27 point on the grid whose answer is the figure: 2, 5, 3, 4, 14, then 7.
-pub fn to27<'a>(h: Header, lat: &'a [i64], lon: &'a [i64], f: Point83) -> Answer27
-    ensures { outcome27 result ≡ to27 (grid_of h lat.now lon.now) f }
+pub fn to27(grid: Grid, f: Point83) -> Result<Point27, Refusal>
+    ensures { outcome result ≡ to27 (lent grid.entry) f }
 {
-    match grid::check(h, lat, lon) {
-        Checked::Refused(why) => Answer27::Refused(why),
-        Checked::Passes => inverse(h, lat, lon, f),
-    }
+    inverse(grid.check()?, f)
 }
 
 impl Shifted {
@@ -70,25 +51,17 @@ impl Shifted {
         ensures numbers { result ≡ numbers83 self }
         ensures sizes { (Within 9223372036854775808 self.point.lat.0) × (Within 9223372036854775808 self.point.lon.0) }
     {
-        let point = self.point;
-        let signs = self.signs;
-        let lat = point.lat;
-        let lon = point.lon;
-        let lat_sign = signs.lat;
-        let lon_sign = signs.lon;
-        [lat.0, lon.0, lat_sign.number(), lon_sign.number()]
+        let Shifted { point, signs } = self;
+        [point.lat.0, point.lon.0, signs.lat.into(), signs.lon.into()]
     }
 }
 
 // `to83` over a grid that was checked.
-fn forward<'a>(h: Header, lat: &'a [i64], lon: &'a [i64], p: Point27) -> Answer83
-    requires { Passes (grid_of h lat.now lon.now) }
-    ensures { outcome83 result ≡ to83 (grid_of h lat.now lon.now) p }
+fn forward(checked: CheckedGrid, p: Point27) -> Result<Shifted, Refusal>
+    ensures { outcome result ≡ to83 (lent checked.entry.grid) p }
 {
-    match offsets::position_of(h, p) {
-        Place::Outside => Answer83::Refused(Refusal::OffGrid),
-        Place::At(x, y) => Answer83::Point(shift_point(p, cells::exact_at(h, lat, lon, x, y))),
-    }
+    let at = offsets::position_of(checked, p).ok_or(Refusal::OffGrid)?;
+    Ok(shift_point(p, cells::exact_at(checked, at)))
 }
 
 // A point's answer, from the exact shift there.
@@ -110,34 +83,22 @@ fn answer_of(p: Point27, s: Shift) -> Point83
     requires { (Within 1000000000 p.lat.0) × (Within 648000000 p.lon.0) × (Within max_shift s.lat) × (Within max_shift s.lon) }
     ensures { result ≡ answer_of p s }
 {
-    let lat = p.lat;
-    let lon = p.lon;
     Point83::new(
-        offsets::hundredfold(lat.0, s.lat),
-        offsets::place83(lon.0, s.lon),
+        offsets::hundredfold(p.lat.0, s.lat),
+        offsets::place83(p.lon.0, s.lon),
     )
 }
 
 // `to27` over a grid that was checked: the candidate is the point if its answer is the figure; otherwise no point is.
-fn inverse<'a>(h: Header, lat: &'a [i64], lon: &'a [i64], f: Point83) -> Answer27
-    requires { Passes (grid_of h lat.now lon.now) }
-    ensures { outcome27 result ≡ to27 (grid_of h lat.now lon.now) f }
+fn inverse(checked: CheckedGrid, f: Point83) -> Result<Point27, Refusal>
+    ensures { outcome result ≡ to27 (lent checked.entry.grid) f }
 {
-    match offsets::target_of(h, f) {
-        Place::Outside => Answer27::Refused(Refusal::NoPoint),
-        Place::At(x, y) => {
-            let found = search::candidate(h, lat, lon, x, y);
-            let p = found.point;
-            settle(f, answer_of(p, found.shift), p)
-        }
+    let to = offsets::target_of(checked, f).ok_or(Refusal::NoPoint)?;
+    let Found { point, shift } = search::candidate(checked, to);
+    let answer = answer_of(point, shift);
+    if f == answer {
+        Ok(point)
+    } else {
+        Err(Refusal::NoPoint)
     }
-}
-
-fn settle(f: Point83, g: Point83, p: Point27) -> Answer27
-    ensures { outcome27 result ≡ settle f g p }
-{
-    if f.same(g) {
-        return Answer27::Point(p);
-    }
-    Answer27::Refused(Refusal::NoPoint)
 }

@@ -7,7 +7,6 @@ ghost use Rattle.shift.specs.Shift.{rounded_shift, rounding_signs};
 ghost use Rattle.shift.specs.Needs.{ExactIn};
 
 use shift::{ExactShift, Shift, Sign, Signs};
-use sizes::magnitude;
 
 pub(crate) fn rounded_shift(e: ExactShift) -> Shift
     requires { ExactIn e }
@@ -35,24 +34,19 @@ fn rounded(n: i64, d: usize) -> i64
     requires { (Within 4860000000000000000 n) × (0 < d) × (d ≤ 810000000000) }
     ensures { result ≡ nearest d n }
 {
-    let size = rounded_size(magnitude(n) as usize, d) as i64;
-    if n < 0 {
-        return -size;
-    }
-    size
+    let size = rounded_size(n.unsigned_abs() as usize, d) as i64;
+    if n < 0 { -size } else { size }
 }
 
 // By quotient and remainder, since 2n may not fit. An odd quotient adds one to twice the remainder, which decides a tie and nothing else.
+#[tactic(auto, unfolding(shift::specs::Round::round_size))]
 fn rounded_size(n: usize, d: usize) -> usize
     requires { (n ≤ 4860000000000000000) × (0 < d) × (d ≤ 810000000000) }
     ensures { result ≡ round_size d n }
 {
     let q = n / d;
     let r = n % d;
-    if d < 2 * r + q % 2 {
-        return q + 1;
-    }
-    q
+    if d < 2 * r + q % 2 { q + 1 } else { q }
 }
 
 // The sign of `r - n / d`, where `r` is `n / d` rounded: that of `r * d - n`, which is whole and at most half of `d`.
@@ -60,5 +54,5 @@ fn rounding_sign(n: i64, d: usize, r: i64) -> Sign
     requires { (Within 4860000000000000000 n) × (0 < d) × (d ≤ 810000000000) × (r ≡ nearest d n) }
     ensures { result ≡ rounding_sign d n r }
 {
-    Sign::of(r * d as i64 - n)
+    Sign::from(r * d as i64 - n)
 }

@@ -3,43 +3,34 @@
 #![tactic(auto)]
 
 ghost use Rattle.std.specs.Prelude.{◌≡◌};
-ghost use Rattle.grid.specs.Grid.{grid_of};
-ghost use Rattle.convert.specs.Convert.{outcome83, outcome27};
+ghost use Rattle.figures.specs.Outcome.{outcome};
+ghost use Rattle.grid.specs.Lent.{lent};
 ghost use Rattle.round_trip.specs.RoundTrip.{comes_back, goes_again, one_answer};
 
-use convert::{Answer27, Answer83};
-use figures::{Point27, Point83};
-use grid::Header;
+use convert::{Shifted, to27, to83};
+use figures::{Point27, Point83, Refusal};
+use grid::Grid;
 
 // A point converted and its answer taken back: the point itself, or the conversion's refusal.
-pub fn there_and_back<'a>(h: Header, lat: &'a [i64], lon: &'a [i64], p: Point27) -> Answer27
-    ensures { outcome27 result ≡ comes_back (grid_of h lat.now lon.now) p }
+pub fn there_and_back(grid: Grid, p: Point27) -> Result<Point27, Refusal>
+    ensures { outcome result ≡ comes_back (lent grid.entry) p }
 {
-    match convert::to83(h, lat, lon, p) {
-        Answer83::Refused(why) => Answer27::Refused(why),
-        Answer83::Point(a) => convert::to27(h, lat, lon, a.point),
-    }
+    to27(grid, to83(grid, p)?.point)
 }
 
 // A figure taken back and its point converted: the figure itself with the signs of that point, or the refusal of the way back.
-pub fn back_and_there<'a>(h: Header, lat: &'a [i64], lon: &'a [i64], f: Point83) -> Answer83
-    ensures { outcome83 result ≡ goes_again (grid_of h lat.now lon.now) f }
+pub fn back_and_there(grid: Grid, f: Point83) -> Result<Shifted, Refusal>
+    ensures { outcome result ≡ goes_again (lent grid.entry) f }
 {
-    match convert::to27(h, lat, lon, f) {
-        Answer27::Refused(why) => Answer83::Refused(why),
-        Answer27::Point(p) => convert::to83(h, lat, lon, p),
-    }
+    to83(grid, to27(grid, f)?)
 }
 
 // Whether two points have the same coordinates for an answer: exactly if they are one point and it has an answer.
-pub fn share_answer<'a>(h: Header, lat: &'a [i64], lon: &'a [i64], p: Point27, q: Point27) -> bool
-    ensures { result ≡ one_answer (grid_of h lat.now lon.now) p q }
+pub fn share_answer(grid: Grid, p: Point27, q: Point27) -> bool
+    ensures { result ≡ one_answer (lent grid.entry) p q }
 {
-    match convert::to83(h, lat, lon, p) {
-        Answer83::Refused(_) => false,
-        Answer83::Point(a) => match convert::to83(h, lat, lon, q) {
-            Answer83::Refused(_) => false,
-            Answer83::Point(b) => a.point.same(b.point),
-        },
+    match (to83(grid, p), to83(grid, q)) {
+        (Ok(a), Ok(b)) => a.point == b.point,
+        _ => false,
     }
 }

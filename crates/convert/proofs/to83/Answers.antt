@@ -1,7 +1,8 @@
-use Rattle.figures.proofs.Laws.{refused_first}
+use Rattle.std.proofs.Common.{◌∙◌}
+use Rattle.figures.proofs.Laws.{at_exit, refused_first}
 use Rattle.convert.specs.Convert.{to83}
 use Rattle.convert.proofs.to83.Goals as goal
 
-pub returns-in-Refused : goal.returns-in-Refused
+pub returns-in_err-check : goal.returns-in_err-check
 unfolding to83
-returns-in-Refused c = refused_first _ c.in-Refused.ensures
+returns-in_err-check c = at_exit c.from_residual.result c.in_err-check.field-0.0 c.from_residual.ensures.1 ∙ refused_first _ c.in_err-check.ensures.verdict

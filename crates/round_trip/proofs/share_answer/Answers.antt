@@ -1,13 +1,17 @@
-use Rattle.std.proofs.Common.{◌∙◌}
-use Rattle.grid.specs.Grid.{grid_of}
+use Rattle.std.proofs.Common.{ap, sym, ◌∙◌}
+use Rattle.figures.specs.Outcome.{outcome}
+use Rattle.figures.proofs.SameLaws.{eq83}
+use Rattle.grid.specs.Lent.{lent}
 use Rattle.round_trip.proofs.Laws.{first_refused, second_refused, answers-compared}
 use Rattle.round_trip.proofs.share_answer.Goals as goal
 
-pub returns-in-Refused : goal.returns-in-Refused
-returns-in-Refused c = let a = c.args in first_refused (grid_of a.h a.lat.now a.lon.now) a.p a.q c.in-Refused.ensures
+pub returns-in-Ok-Ok : goal.returns-in-Ok-Ok
+returns-in-Ok-Ok c =
+    let m = c.in-Ok-Ok in
+    c.eq.ensures ∙ eq83 m.a.point m.b.point ∙ answers-compared (lent c.args.grid) c.args.p c.args.q m.ensures m.ensures'
 
-pub returns-in-Refused-to83 : goal.returns-in-Refused-to83
-returns-in-Refused-to83 c = let a = c.args in second_refused (grid_of a.h a.lat.now a.lon.now) a.p a.q c.in-Point.ensures c.in-Refused-to83.ensures
+pub returns-in_default : goal.returns-in_default
+returns-in_default c = let m = c.in_default in second_refused (lent c.args.grid) c.args.p c.args.q m.ensures m.ensures'
 
-pub returns-in-Point-to83 : goal.returns-in-Point-to83
-returns-in-Point-to83 c = let a = c.args in c.same.ensures ∙ answers-compared (grid_of a.h a.lat.now a.lon.now) a.p a.q c.in-Point.ensures c.in-Point-to83.ensures
+pub returns-in_default-2 : goal.returns-in_default-2
+returns-in_default-2 c = first_refused (lent c.args.grid) c.args.p c.args.q (ap outcome (sym c.in_default.is-0) ∙ c.to83.ensures)

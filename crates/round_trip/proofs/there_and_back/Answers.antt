@@ -1,13 +1,13 @@
 use Rattle.std.proofs.Common.{◌∙◌}
-use Rattle.figures.proofs.Laws.{refused_first}
-use Rattle.grid.specs.Grid.{grid_of}
+use Rattle.figures.proofs.Laws.{at_exit, refused_first}
+use Rattle.grid.specs.Lent.{lent}
 use Rattle.round_trip.specs.RoundTrip.{comes_back}
 use Rattle.round_trip.proofs.Laws.{there_back}
 use Rattle.round_trip.proofs.there_and_back.Goals as goal
 
-pub returns-in-Refused : goal.returns-in-Refused
+pub returns-in_err-to83 : goal.returns-in_err-to83
 unfolding comes_back
-returns-in-Refused c = refused_first _ c.in-Refused.ensures
+returns-in_err-to83 c = at_exit c.from_residual.result c.in_err-to83.field-0.0 c.from_residual.ensures.1 ∙ refused_first _ c.in_err-to83.ensures
 
-pub returns-in-Point : goal.returns-in-Point
-returns-in-Point c = let a = c.args in c.to27.ensures ∙ there_back (grid_of a.h a.lat.now a.lon.now) a.p c.in-Point.ensures
+pub returns : goal.returns
+returns c = c.to27.ensures ∙ there_back (lent c.args.grid) c.args.p c.in_ok-to83.ensures

@@ -1,26 +1,66 @@
-use Rattle.convert.specs.Batch.{converting, answers_after, refusals_after}
+use Rattle.std.proofs.Common.{length, sym, ap, ◌∙◌}
+use Rattle.figures.proofs.Laws.{at_exit, refused_first, passed_first}
+use Rattle.grid.specs.Lent.{lent}
+use Rattle.convert.specs.Batch.{request_outcome, converting, answers_to, refusals_to, answers_after, refusals_after}
+use Rattle.convert.proofs.BatchLaws.{roomy}
 use Rattle.convert.proofs.batch.convert_batch.Goals as goal
 
-pub returns-in-Refused-clause-answer : goal.returns-in-Refused-clause-answer
+-- a grid that is refused, and slices that are too short
+pub returns-in_err-checked-clause-answer : goal.returns-in_err-checked-clause-answer
 unfolding converting
-returns-in-Refused-clause-answer c = rw (← c.in-Refused.ensures)
+returns-in_err-checked-clause-answer c = at_exit c.from_residual.result c.in_err-checked.field-0.0 c.from_residual.ensures.1 ∙ refused_first _ c.in_err-checked.ensures.verdict
 
-pub returns-in-Refused-clause-answers : goal.returns-in-Refused-clause-answers
+pub returns-in_err-checked-clause-answers : goal.returns-in_err-checked-clause-answers
 unfolding converting answers_after
-returns-in-Refused-clause-answers c = rw (← c.in-Refused.ensures)
+returns-in_err-checked-clause-answers c = let a = c.args in ap (λ o. answers_after o (request_outcome (lent a.grid) a.ways.now a.points.now) a.answers.now) (refused_first _ c.in_err-checked.ensures.verdict)
 
-pub returns-in-Refused-clause-refusals : goal.returns-in-Refused-clause-refusals
+pub returns-in_err-checked-clause-refusals : goal.returns-in_err-checked-clause-refusals
 unfolding converting refusals_after
-returns-in-Refused-clause-refusals c = rw (← c.in-Refused.ensures)
+returns-in_err-checked-clause-refusals c = let a = c.args in ap (λ o. refusals_after o (request_outcome (lent a.grid) a.ways.now a.points.now) a.refusals.now) (refused_first _ c.in_err-checked.ensures.verdict)
 
-pub returns-in-Passes-clause-answer : goal.returns-in-Passes-clause-answer
+pub returns-in_err-n-clause-answer : goal.returns-in_err-n-clause-answer
 unfolding converting
-returns-in-Passes-clause-answer c = rw (← c.in-Passes.ensures) c.convert_checked.ensures.answer
+returns-in_err-n-clause-answer c = let r = c.from_residual-in_err-n in at_exit r.result c.in_err-n.field-0.0 r.ensures.1 ∙ c.in_err-n.ensures ∙ passed_first _ c.in_ok-checked.ensures.verdict
 
-pub returns-in-Passes-clause-answers : goal.returns-in-Passes-clause-answers
-unfolding converting
-returns-in-Passes-clause-answers c = rw (← c.in-Passes.ensures) c.convert_checked.ensures.answers
+pub returns-in_err-n-clause-answers : goal.returns-in_err-n-clause-answers
+unfolding converting answers_after
+returns-in_err-n-clause-answers c =
+    let a = c.args in
+    ap (λ o. answers_after o (request_outcome (lent a.grid) a.ways.now a.points.now) a.answers.now) (c.in_err-n.ensures ∙ passed_first _ c.in_ok-checked.ensures.verdict)
 
-pub returns-in-Passes-clause-refusals : goal.returns-in-Passes-clause-refusals
+pub returns-in_err-n-clause-refusals : goal.returns-in_err-n-clause-refusals
+unfolding converting refusals_after
+returns-in_err-n-clause-refusals c =
+    let a = c.args in
+    ap (λ o. refusals_after o (request_outcome (lent a.grid) a.ways.now a.points.now) a.refusals.now) (c.in_err-n.ensures ∙ passed_first _ c.in_ok-checked.ensures.verdict)
+
+-- room for each request
+pub fill-requires : goal.fill-requires
+fill-requires c =
+    let a = c.args in
+    let r = roomy (length a.ways.now) a.points.now a.answers.now a.refusals.now c.in_ok-n.ensures in
+    (r.points_fit, r.answers_fit, r.refusals_fit)
+
+pub returns-clause-answer : goal.returns-clause-answer
 unfolding converting
-returns-in-Passes-clause-refusals c = rw (← c.in-Passes.ensures) c.convert_checked.ensures.refusals
+returns-clause-answer c = c.in_ok-n.ensures ∙ passed_first _ c.in_ok-checked.ensures.verdict
+
+pub returns-clause-answers : goal.returns-clause-answers
+unfolding converting answers_after
+returns-clause-answers c =
+    let a = c.args in
+    let r = roomy (length a.ways.now) a.points.now a.answers.now a.refusals.now c.in_ok-n.ensures in
+    let g = c.in_ok-checked.ensures.same in
+    c.fill.ensures.answers
+    ∙ (λ i. answers_to (request_outcome (g i) a.ways.now a.points.now) (sym r.all i) a.answers.now)
+    ∙ ap (λ o. answers_after o (request_outcome (lent a.grid) a.ways.now a.points.now) a.answers.now) (c.in_ok-n.ensures ∙ passed_first _ c.in_ok-checked.ensures.verdict)
+
+pub returns-clause-refusals : goal.returns-clause-refusals
+unfolding converting refusals_after
+returns-clause-refusals c =
+    let a = c.args in
+    let r = roomy (length a.ways.now) a.points.now a.answers.now a.refusals.now c.in_ok-n.ensures in
+    let g = c.in_ok-checked.ensures.same in
+    c.fill.ensures.refusals
+    ∙ (λ i. refusals_to (request_outcome (g i) a.ways.now a.points.now) (sym r.all i) a.refusals.now)
+    ∙ ap (λ o. refusals_after o (request_outcome (lent a.grid) a.ways.now a.points.now) a.refusals.now) (c.in_ok-n.ensures ∙ passed_first _ c.in_ok-checked.ensures.verdict)

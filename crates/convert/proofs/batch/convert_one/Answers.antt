@@ -1,27 +1,49 @@
-use Rattle.std.proofs.Common.{eq-eqb, ne_eqb, to_z-of_z, ap, ◌∙◌}
-use Rattle.figures.specs.Outcome.{map_answer}
+use Rattle.std.proofs.Common.{to_z-of_z, ap, sym, ◌∙◌}
+use Rattle.figures.specs.Outcome.{answered, map_answer}
 use Rattle.figures.specs.Points.{point27, point83}
-use Rattle.grid.specs.Grid.{grid_of}
+use Rattle.figures.proofs.Laws.{at_exit}
+use Rattle.grid.specs.Lent.{lent}
 use Rattle.convert.specs.Convert.{to83, to27}
-use Rattle.convert.specs.Batch.{in83, in27, converted}
+use Rattle.convert.specs.declared.batch.Converted.{Converted}
+use Rattle.convert.proofs.BatchLaws.{by_number}
 use Rattle.convert.proofs.batch.convert_one.Goals as goal
 
-pub returns-then-way-eq-TO83 : goal.returns-then-way-eq-TO83
-unfolding converted
-returns-then-way-eq-TO83 c =
+pub returns-in_err-try_from : goal.returns-in_err-try_from
+returns-in_err-try_from c =
+    let a = c.args in at_exit c.from_residual.result c.in_err-try_from.field-0.0 c.from_residual.ensures.1 ∙ by_number (lent a.checked.grid) a.way a.y a.x c.in_err-try_from.ensures
+
+pub returns-in_err-forward_one-in-To83 : goal.returns-in_err-forward_one-in-To83
+returns-in_err-forward_one-in-To83 c =
     let a = c.args in
+    let g = lent a.checked.grid in
+    let w = ap (answered) (sym c.in-To83.is) ∙ c.in_ok-try_from.ensures in
     let p = c.new.ensures ∙ (λ i. point27 (to_z-of_z c.ranges.y i) (to_z-of_z c.ranges.x i)) in
-    rw (eq-eqb a.way 1 c.if-way-eq-TO83.true)
-    (c.forward_one.ensures ∙ ap (λ q. map_answer in83 (to83 (grid_of a.h a.lat.now a.lon.now) q)) p)
+    let e = c.in_err-forward_one-in-To83 in
+    let r = c.from_residual-in_err-forward_one-in-To83 in
+    at_exit r.result e.field-0.0 r.ensures.1 ∙ ap (map_answer Converted.In83) (e.ensures ∙ ap (to83 g) p) ∙ by_number g a.way a.y a.x w
 
-pub returns-then-way-eq-TO27 : goal.returns-then-way-eq-TO27
-unfolding converted
-returns-then-way-eq-TO27 c =
+pub returns-in_ok-forward_one-in-To83 : goal.returns-in_ok-forward_one-in-To83
+returns-in_ok-forward_one-in-To83 c =
     let a = c.args in
-    let p = c.new-then-way-eq-TO27.ensures ∙ (λ i. point83 (to_z-of_z c.ranges.y i) (to_z-of_z c.ranges.x i)) in
-    rw (ne_eqb a.way 1 c.if-way-eq-TO83.false, eq-eqb a.way 2 c.if-way-eq-TO27.true)
-    (c.inverse_one.ensures ∙ ap (λ q. map_answer in27 (to27 (grid_of a.h a.lat.now a.lon.now) q)) p)
+    let g = lent a.checked.grid in
+    let w = ap (answered) (sym c.in-To83.is) ∙ c.in_ok-try_from.ensures in
+    let p = c.new.ensures ∙ (λ i. point27 (to_z-of_z c.ranges.y i) (to_z-of_z c.ranges.x i)) in
+    ap (map_answer Converted.In83) (c.in_ok-forward_one-in-To83.ensures ∙ ap (to83 g) p) ∙ by_number g a.way a.y a.x w
 
-pub returns : goal.returns
-unfolding converted
-returns c = rw (ne_eqb c.args.way 1 c.if-way-eq-TO83.false, ne_eqb c.args.way 2 c.if-way-eq-TO27.false)
+pub returns-in_err-inverse-in-To27 : goal.returns-in_err-inverse-in-To27
+returns-in_err-inverse-in-To27 c =
+    let a = c.args in
+    let g = lent a.checked.grid in
+    let w = ap (answered) (sym c.in-To27.is) ∙ c.in_ok-try_from.ensures in
+    let f = c.new-in-To27.ensures ∙ (λ i. point83 (to_z-of_z c.ranges.y i) (to_z-of_z c.ranges.x i)) in
+    let e = c.in_err-inverse-in-To27 in
+    let r = c.from_residual-in_err-inverse-in-To27 in
+    at_exit r.result e.field-0.0 r.ensures.1 ∙ ap (map_answer Converted.In27) (e.ensures ∙ ap (to27 g) f) ∙ by_number g a.way a.y a.x w
+
+pub returns-in_ok-inverse-in-To27 : goal.returns-in_ok-inverse-in-To27
+returns-in_ok-inverse-in-To27 c =
+    let a = c.args in
+    let g = lent a.checked.grid in
+    let w = ap (answered) (sym c.in-To27.is) ∙ c.in_ok-try_from.ensures in
+    let f = c.new-in-To27.ensures ∙ (λ i. point83 (to_z-of_z c.ranges.y i) (to_z-of_z c.ranges.x i)) in
+    ap (map_answer Converted.In27) (c.in_ok-inverse-in-To27.ensures ∙ ap (to27 g) f) ∙ by_number g a.way a.y a.x w

@@ -61,8 +61,8 @@ returns-then-v-lt0 c =
     let e = sym (tells a.half a.v p.0 p.1 p.2 c.names.ensures) ∙ c.if-names.false in
     is_lower a.half a.v p.0 p.1 p.2 (past_low a.half a.v p.0 p.1 p.2 e (lt_yes (bounded (v_within a.half a.v p.0 p.1 p.2)) (lit (pos 0)) tt c.if-v-lt0.true))
 
-pub returns : goal.returns
-returns c =
+pub returns-else-v-lt0 : goal.returns-else-v-lt0
+returns-else-v-lt0 c =
     let a = c.args in
     let p = c.requires in
     let e = sym (tells a.half a.v p.0 p.1 p.2 c.names.ensures) ∙ c.if-names.false in

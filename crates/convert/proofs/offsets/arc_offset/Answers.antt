@@ -1,13 +1,13 @@
-use Rattle.std.proofs.Common.{arith, ℕ, ◌≤◌, ◌<◌, ◌≡◌, true, ℤ, pos, ◌-ℤ◌, ◌≤ℤ◌, ◌<ℤ◌, sym, ◌∙◌}
+use Rattle.std.proofs.Common.{arith, ℕ, ◌≤◌, leb, ◌≡◌, true, ℤ, pos, ◌-ℤ◌, ◌≤ℤ◌, ◌<ℤ◌, sym, ◌∙◌}
 use Rattle.std.specs.Int.Signed.{le_z}
+use Rattle.std.specs.Bool.{then_some}
 use Rattle.laws.specs.Parts.{Within, ints}
 use Rattle.laws.specs.Logic.{le_z_holds, le_z_fails}
 use Rattle.laws.specs.Expr.{Expr, need, reads₂, linear, bounded, fitting, nat, ◌⊖◌}
 use Rattle.laws.specs.Tests.{lt_no, need_cast, reads_cast}
 use Rattle.laws.specs.Circle.{names, Named, named, named_within, names_it, above_range, distance_ahead}
 use Rattle.convert.specs.Points.{arc_offset}
-use Rattle.convert.specs.declared.offsets.Offset.{Offset}
-use Rattle.convert.proofs.Places.{arc_nowhere, arc_beyond, arc_at}
+use Rattle.convert.proofs.Places.{arc_nowhere, arc_at}
 use Rattle.convert.proofs.offsets.arc_offset.Goals as goal
 
 module _ (half : ℕ) (from : ℤ) (v : ℤ) (few : half ≤ 64800000000) (n : names half from ≡ true) where
@@ -31,11 +31,8 @@ module _ (half : ℕ) (from : ℤ) (v : ℤ) (few : half ≤ 64800000000) (n : n
     apart_natural : pos 0 ≤ℤ (v -ℤ from)
     apart_natural = omega (arith, ints, a, linear apart)
 
-    beyond : (length : ℕ) {x : ℕ} → pos x ≡ v -ℤ from → length < x → Offset.Outside ≡ arc_offset half from length v
-    beyond length e l = arc_beyond half from length v (names_it v_named) (distance_ahead from_named v_named a e) l
-
-    there : (length : ℕ) {x : ℕ} → pos x ≡ v -ℤ from → x ≤ length → Offset.At x ≡ arc_offset half from length v
-    there length e l = arc_at half from length v (names_it v_named) (distance_ahead from_named v_named a e) l
+    there : (length : ℕ) {x : ℕ} → pos x ≡ v -ℤ from → then_some (leb x length) x ≡ arc_offset half from length v
+    there length e = arc_at half from length v (names_it v_named) (distance_ahead from_named v_named a e)
 
 pub returns-then-half-v : goal.returns-then-half-v
 returns-then-half-v c = arc_nowhere _ _ _ _ (above_range _ _ (le_z_holds (sym (reads₂ le_z (nat c.requires.0) (fitting c.ranges.v) tt) ∙ c.if-half-v.true)))
@@ -56,18 +53,10 @@ overflow_cast-east c =
     let h = le_z_fails (sym (reads₂ le_z (nat p.0) (fitting c.ranges.v) tt) ∙ c.if-half-v.false) in
     need_cast (apart a.half a.from a.v p.0 p.1 l h) (apart_natural a.half a.from a.v p.0 p.1 l h) tt
 
-pub returns-then-length-east : goal.returns-then-length-east
-returns-then-length-east c =
-    let a = c.args in
-    let p = c.requires in
-    let l = lt_no (fitting c.ranges.v) (bounded (from_within a.half a.from a.v p.0 p.1)) tt c.if-v-from.false in
-    let h = le_z_fails (sym (reads₂ le_z (nat p.0) (fitting c.ranges.v) tt) ∙ c.if-half-v.false) in
-    beyond a.half a.from a.v p.0 p.1 l h a.length (reads_cast (apart a.half a.from a.v p.0 p.1 l h) (apart_natural a.half a.from a.v p.0 p.1 l h) tt) c.if-length-east.true
-
 pub returns : goal.returns
 returns c =
     let a = c.args in
     let p = c.requires in
     let l = lt_no (fitting c.ranges.v) (bounded (from_within a.half a.from a.v p.0 p.1)) tt c.if-v-from.false in
     let h = le_z_fails (sym (reads₂ le_z (nat p.0) (fitting c.ranges.v) tt) ∙ c.if-half-v.false) in
-    there a.half a.from a.v p.0 p.1 l h a.length (reads_cast (apart a.half a.from a.v p.0 p.1 l h) (apart_natural a.half a.from a.v p.0 p.1 l h) tt) c.if-length-east.false
+    c.then_some.ensures ∙ there a.half a.from a.v p.0 p.1 l h a.length (reads_cast (apart a.half a.from a.v p.0 p.1 l h) (apart_natural a.half a.from a.v p.0 p.1 l h) tt)

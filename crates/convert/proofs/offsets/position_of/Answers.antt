@@ -1,38 +1,53 @@
-use Rattle.std.proofs.Common.{arith, rules, ◌*◌, ◌-◌, ap, ◌∙◌, FitsSigned, w64, to_z-of_z}
-use Rattle.laws.specs.Expr.{reads, reads_within, bounded}
+use Rattle.std.proofs.Common.{arith, rules, ℕ, ◌≡◌, Option, FitsSigned, w64, to_z-of_z, ap, ◌∙◌}
+use Rattle.laws.specs.Expr.{machine, reads, reads_within, bounded}
 use Rattle.laws.specs.Bounds.{widen}
 use Rattle.laws.specs.Circle.{names, names_it}
-use Rattle.figures.specs.Points.{half_turn27}
-use Rattle.grid.specs.declared.Shape.{Shape}
-use Rattle.grid.proofs.RuleLaws.{rules_hold}
-use Rattle.convert.specs.Points.{width, height, offset, arc_offset, place, position_of}
-use Rattle.convert.proofs.Places.{sides, corner_within, west_named}
+use Rattle.figures.specs.Points.{Point27, half_turn27}
+use Rattle.grid.specs.declared.Header.{Header}
+use Rattle.grid.proofs.RuleLaws.{RulesHold}
+use Rattle.grid.proofs.Passing.{good}
+use Rattle.convert.specs.Points.{width, height, offset, arc_offset, both_at, position_of}
+use Rattle.convert.proofs.Places.{corner_within, west_named}
 use Rattle.convert.proofs.offsets.position_of.Goals as goal
 
-pub span-height-requires : goal.span-height-requires
-span-height-requires c = rw c.shape_of-shape.ensures (sides (rules_hold c.args.h c.requires)).0
+-- how far east and north the point is, as the code has worked it out
+module _ {h : Header} (k : RulesHold h) (p : Point27) where
+  east_is : {x : Option ℕ} {w : ℕ} → FitsSigned w64 p.lon.0 → w ≡ width h → x ≡ arc_offset half_turn27 (machine h.west.0) w (machine p.lon.0)
+      → x ≡ arc_offset half_turn27 h.west.0 (width h) p.lon.0
+  east_is f e r = r ∙ (λ i. arc_offset half_turn27 (reads (bounded (corner_within k).1) tt i) (e i) (to_z-of_z f i))
 
-pub span-width-requires : goal.span-width-requires
-span-width-requires c = rw c.shape_of-shape.ensures (sides (rules_hold c.args.h c.requires)).1
+  north_is : {y : Option ℕ} {n : ℕ} → FitsSigned w64 p.lat.0 → n ≡ height h → y ≡ offset (machine h.south.0) n (machine p.lat.0) → y ≡ offset h.south.0 (height h) p.lat.0
+  north_is f e r = r ∙ (λ i. offset (reads (bounded (corner_within k).0) tt i) (e i) (to_z-of_z f i))
 
-pub offset_of-y-requires : goal.offset_of-y-requires
-offset_of-y-requires c = (reads_within (bounded (widen (corner_within (rules_hold c.args.h c.requires)).0 tt)) tt, omega (arith, c.span-height.ensures.1))
-
-pub arc_offset-x-requires : goal.arc_offset-x-requires
-arc_offset-x-requires c =
-    let k = rules_hold c.args.h c.requires in
+pub arc_offset-requires : goal.arc_offset-requires
+arc_offset-requires c =
+    let k = (good _ c.args.checked.passes).header in
     (omega arith, ap (names half_turn27) (reads (bounded (corner_within k).1) tt) ∙ names_it (west_named k))
 
+pub offset_of-requires : goal.offset_of-requires
+offset_of-requires c =
+    (reads_within (bounded (widen (corner_within (good _ c.args.checked.passes).header).0 tt)) tt, omega (arith, c.height.ensures.1))
+
+pub returns-in_err-x : goal.returns-in_err-x
+unfolding position_of
+returns-in_err-x c =
+    let h = c.args.checked.grid.header in
+    let k = (good _ c.args.checked.passes).header in
+    let x = east_is k c.args.p (search rules) c.width.ensures.0 c.in_err-x.ensures in
+    c.from_residual.ensures ∙ ap (λ x. both_at x (offset h.south.0 (height h) c.args.p.lat.0)) x
+
+pub returns-in_err-y : goal.returns-in_err-y
+unfolding position_of
+returns-in_err-y c =
+    let k = (good _ c.args.checked.passes).header in
+    let x = east_is k c.args.p (search rules) c.width.ensures.0 c.in_ok-x.ensures in
+    let y = north_is k c.args.p (search rules) c.height.ensures.0 c.in_err-y.ensures in
+    c.from_residual-in_err-y.ensures ∙ (λ i. both_at (x i) (y i))
+
 pub returns : goal.returns
-unfolding position_of width height
+unfolding position_of
 returns c =
-    let a = c.args in
-    let k = corner_within (rules_hold c.args.h c.requires) in
-    let z = c.shape_of-shape.ensures in
-    let v : FitsSigned w64 a.p.lat.0 = search rules in
-    let u : FitsSigned w64 a.p.lon.0 = search rules in
-    let n = c.span-height.ensures.0 ∙ ap (λ (t : Shape). (t.rows - 1) * t.dlat) z in
-    let m = c.span-width.ensures.0 ∙ ap (λ (t : Shape). (t.cols - 1) * t.dlon) z in
-    let y = c.offset_of-y.ensures ∙ (λ i. offset (reads (bounded k.0) tt i) (n i) (to_z-of_z v i)) in
-    let x = c.arc_offset-x.ensures ∙ (λ i. arc_offset half_turn27 (reads (bounded k.1) tt i) (m i) (to_z-of_z u i)) in
-    c.both_of.ensures ∙ (λ i. place (x i) (y i))
+    let k = (good _ c.args.checked.passes).header in
+    let x = east_is k c.args.p (search rules) c.width.ensures.0 c.in_ok-x.ensures in
+    let y = north_is k c.args.p (search rules) c.height.ensures.0 c.in_ok-y.ensures in
+    (λ i. both_at (x i) (y i))

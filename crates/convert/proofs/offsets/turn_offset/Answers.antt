@@ -1,11 +1,11 @@
-use Rattle.std.proofs.Common.{arith, ℕ, ◌≤◌, ◌<◌, ◌≡◌, true, ℤ, pos, ◌+ℤ◌, ◌-ℤ◌, ◌*ℤ◌, ◌≤ℤ◌, ◌<ℤ◌}
+use Rattle.std.proofs.Common.{arith, ℕ, ◌≤◌, leb, ◌≡◌, true, ℤ, pos, ◌+ℤ◌, ◌-ℤ◌, ◌*ℤ◌, ◌≤ℤ◌, ◌<ℤ◌, ◌∙◌}
+use Rattle.std.specs.Bool.{then_some}
 use Rattle.laws.specs.Parts.{Within, ints}
 use Rattle.laws.specs.Expr.{Expr, linear, bounded, fitting, lit, nat, ◌⊕◌, ◌⊖◌, ◌⊛◌, ⊝}
 use Rattle.laws.specs.Tests.{lt_yes, lt_no, reads_cast}
 use Rattle.laws.specs.Circle.{names, Named, named, named_within, names_it, below_range, distance-around}
 use Rattle.convert.specs.Points.{arc_offset}
-use Rattle.convert.specs.declared.offsets.Offset.{Offset}
-use Rattle.convert.proofs.Places.{arc_nowhere, arc_beyond, arc_at}
+use Rattle.convert.proofs.Places.{arc_nowhere, arc_at}
 use Rattle.convert.proofs.Apart.{apart_fits, turned_fits, turned_cast}
 use Rattle.convert.proofs.offsets.turn_offset.Goals as goal
 
@@ -39,11 +39,8 @@ module _ (half : ℕ) (from : ℤ) (v : ℤ) (few : half ≤ 64800000000) (n : n
     around_natural : pos 0 ≤ℤ (v -ℤ from +ℤ pos 2 *ℤ pos half)
     around_natural = omega (arith, ints, v_named, from_named, linear around, linear (⊝ end))
 
-    beyond : (length : ℕ) {x : ℕ} → pos x ≡ v -ℤ from +ℤ pos 2 *ℤ pos half → length < x → Offset.Outside ≡ arc_offset half from length v
-    beyond length e l = arc_beyond half from length v (names_it v_named) (distance-around from_named v_named b e) l
-
-    there : (length : ℕ) {x : ℕ} → pos x ≡ v -ℤ from +ℤ pos 2 *ℤ pos half → x ≤ length → Offset.At x ≡ arc_offset half from length v
-    there length e l = arc_at half from length v (names_it v_named) (distance-around from_named v_named b e) l
+    there : (length : ℕ) {x : ℕ} → pos x ≡ v -ℤ from +ℤ pos 2 *ℤ pos half → then_some (leb x length) x ≡ arc_offset half from length v
+    there length e = arc_at half from length v (names_it v_named) (distance-around from_named v_named b e)
 
 pub returns-then-v-half : goal.returns-then-v-half
 returns-then-v-half c =
@@ -78,16 +75,9 @@ overflow_cast-east-2 c =
     let v = v_named a.half a.from a.v p.0 p.1 p.2 (lt_no (fitting c.ranges.v) (low a.half a.from a.v p.0 p.1 p.2) tt c.if-v-half.false) in
     search (turned_cast a.half a.v a.from p.0 v f 2 tt tt, turned_cast a.half a.from a.v p.0 f v 2 tt tt, turned_cast a.half a.v a.from p.0 v f 4 tt tt)
 
-pub returns-then-length-east : goal.returns-then-length-east
-returns-then-length-east c =
-    let a = c.args in
-    let p = c.requires in
-    let t = lt_no (fitting c.ranges.v) (low a.half a.from a.v p.0 p.1 p.2) tt c.if-v-half.false in
-    beyond a.half a.from a.v p.0 p.1 p.2 t a.length (reads_cast (around a.half a.from a.v p.0 p.1 p.2 t) (around_natural a.half a.from a.v p.0 p.1 p.2 t) tt) c.if-length-east.true
-
 pub returns : goal.returns
 returns c =
     let a = c.args in
     let p = c.requires in
     let t = lt_no (fitting c.ranges.v) (low a.half a.from a.v p.0 p.1 p.2) tt c.if-v-half.false in
-    there a.half a.from a.v p.0 p.1 p.2 t a.length (reads_cast (around a.half a.from a.v p.0 p.1 p.2 t) (around_natural a.half a.from a.v p.0 p.1 p.2 t) tt) c.if-length-east.false
+    c.then_some.ensures ∙ there a.half a.from a.v p.0 p.1 p.2 t a.length (reads_cast (around a.half a.from a.v p.0 p.1 p.2 t) (around_natural a.half a.from a.v p.0 p.1 p.2 t) tt)

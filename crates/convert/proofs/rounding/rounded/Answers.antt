@@ -19,25 +19,25 @@ module _ (n : ℤ) (d : ℕ) {m r : ℕ} (w : Within 4860000000000000000 n) (som
 pub overflow_cast-size : goal.overflow_cast-size
 overflow_cast-size c =
     let p = c.requires in
-    need (nat (size_small c.args.n c.args.d p.0 p.1 c.magnitude.ensures c.rounded_size-size.ensures)) tt
+    need (nat (size_small c.args.n c.args.d p.0 p.1 c.unsigned_abs.ensures.value c.rounded_size-size.ensures)) tt
 
 pub overflow_sub-result : goal.overflow_sub-result
 overflow_sub-result c =
     let p = c.requires in
-    need (lit (pos 0) ⊖ nat (size_small c.args.n c.args.d p.0 p.1 c.magnitude.ensures c.rounded_size-size.ensures)) tt
+    need (lit (pos 0) ⊖ nat (size_small c.args.n c.args.d p.0 p.1 c.unsigned_abs.ensures.value c.rounded_size-size.ensures)) tt
 
 pub returns-then-n-lt0 : goal.returns-then-n-lt0
 returns-then-n-lt0 c =
     let p = c.requires in
-    let s = nat (size_small c.args.n c.args.d p.0 p.1 c.magnitude.ensures c.rounded_size-size.ensures) in
-    let e = size_is c.args.n c.args.d p.0 p.1 c.magnitude.ensures c.rounded_size-size.ensures in
+    let s = nat (size_small c.args.n c.args.d p.0 p.1 c.unsigned_abs.ensures.value c.rounded_size-size.ensures) in
+    let e = size_is c.args.n c.args.d p.0 p.1 c.unsigned_abs.ensures.value c.rounded_size-size.ensures in
     reads (lit (pos 0) ⊖ s) tt
     ∙ ap (λ r. pos 0 -ℤ pos r) e
     ∙ nearest-below c.args.d (lt_yes (bounded p.0) (lit (pos 0)) tt c.if-n-lt0.true)
 
-pub returns : goal.returns
-returns c =
+pub returns-else-n-lt0 : goal.returns-else-n-lt0
+returns-else-n-lt0 c =
     let p = c.requires in
-    let s = nat (size_small c.args.n c.args.d p.0 p.1 c.magnitude.ensures c.rounded_size-size.ensures) in
-    let e = size_is c.args.n c.args.d p.0 p.1 c.magnitude.ensures c.rounded_size-size.ensures in
+    let s = nat (size_small c.args.n c.args.d p.0 p.1 c.unsigned_abs.ensures.value c.rounded_size-size.ensures) in
+    let e = size_is c.args.n c.args.d p.0 p.1 c.unsigned_abs.ensures.value c.rounded_size-size.ensures in
     reads s tt ∙ ap pos e ∙ nearest_above c.args.d (lt_no (bounded p.0) (lit (pos 0)) tt c.if-n-lt0.false)

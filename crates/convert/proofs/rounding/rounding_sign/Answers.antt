@@ -31,4 +31,4 @@ overflow_sub-r c = let p = c.requires in search (all_needs (over p.0 p.1 p.2 p.3
 
 pub returns : goal.returns
 unfolding rounding_sign
-returns c = let p = c.requires in c.of.ensures ∙ ap sign_of (reads (over p.0 p.1 p.2 p.3) tt)
+returns c = let p = c.requires in c.from.ensures ∙ ap sign_of (reads (over p.0 p.1 p.2 p.3) tt)

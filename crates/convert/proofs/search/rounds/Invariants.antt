@@ -1,14 +1,15 @@
-use Rattle.std.proofs.Common.{◌-◌, ◌≤◌}
+use Rattle.std.proofs.Common.{◌≡◌}
 use Rattle.bilinear.specs.Search.{Reached}
-use Rattle.grid.specs.Grid.{grid_of}
+use Rattle.grid.specs.Lent.{lent}
+use Rattle.grid.specs.Rules.{shape}
+use Rattle.shift.specs.Shift.{shift_of}
 use Rattle.convert.specs.Rounds.{raised_lat, raised_lon}
 use Rattle.convert.proofs.search.rounds.Given as goal
 
-abbrev pub invariant-loop-h : goal.invariant-loop-h
-invariant-loop-h l = record {
-  few : l.k ≤ 6;
-  reached : Reached l.t.width l.t.height (raised_lon (grid_of l.h l.lat l.lon)) (raised_lat (grid_of l.h l.lat l.lon)) l.t.east l.t.north l.k l.at.x l.at.y;
-}
-
-abbrev pub decreases-loop-h : goal.decreases-loop-h
-decreases-loop-h l = 6 - l.k
+abbrev pub invariant-loop : goal.invariant-loop
+invariant-loop l =
+    let g = lent l.checked.grid in
+    record {
+      reached : Reached l.t.width l.t.height (raised_lon g) (raised_lat g) l.t.to.x l.t.to.y l.counter l.last.at.x l.last.at.y;
+      shift : l.last.shift ≡ shift_of (shape g.header) g.nodes l.last.at.x l.last.at.y;
+    }
