@@ -1,14 +1,15 @@
 -- The laws of `digits`.
 use Prim.Native.Nat.{ℕ, zero, suc, ◌+◌, ◌-◌, ◌*◌, ◌/◌, ◌%◌, ◌^◌, ◌≤◌, ◌<◌}
 use mathlib.Core.Path.{◌≡◌, refl, sym, ap, ◌∙◌}
-use mathlib.Core.List.{List, [], ◌∷◌, ◌++◌}
+use mathlib.Core.List.{List, [], ◌∷◌, ◌++◌, map}
 use mathlib.Core.Logic.{⊎_elim}
 use native.Mathlib.Omega.{arith}
-use native.Mathlib.Nat.{pow-suc}
-use borrow.Author.Tests.{lt-ltb, le-ltb}
 use lib.ListN.{length, length-append}
+use Rattle.std.specs.Int.Digits.{digits_of}
+use Rattle.std.proofs.lemmas.List.{map-append, length-map}
+use Rattle.std.proofs.lemmas.Int.Digits.{digits_of_step, length-digits_of-le}
 use Rattle.laws.specs.Logic.{lt_or_ge}
-use Rattle.decimal.specs.Spelling.{digits_in, digits, value_from}
+use Rattle.decimal.specs.Spelling.{digits, value_from}
 
 -- induction: what holds below ten, and of n where it holds of n / 10, holds of every number
 pub tens : (P : ℕ → Type 0) → ((n : ℕ) → n < 10 → P n) → ((n : ℕ) → 10 ≤ n → P (n / 10) → P n) → (n : ℕ) → P n
@@ -18,32 +19,24 @@ tens P small more n = go (suc n) n (omega arith)
     go zero m h = absurd (omega arith)
     go (suc k) m h = ⊎_elim (small m) (λ g. more m g (go k (m / 10) (omega arith))) (lt_or_ge m 10)
 
-in_small : (k n : ℕ) → n < 10 → digits_in (suc k) n ≡ (48 + n) ∷ []
-unfolding digits_in
-in_small k n h = rw (lt-ltb n 10 h, digits_in)
+-- ---- `digits` by its two equations
 
-in_more : (k n : ℕ) → 10 ≤ n → digits_in (suc k) n ≡ digits_in k (n / 10) ++ ((48 + n % 10) ∷ [])
-unfolding digits_in
-in_more k n h = rw (le-ltb n 10 h, digits_in)
-
--- enough fuel is enough
-fuel : (k j n : ℕ) → n < k → n < j → digits_in k n ≡ digits_in j n
-fuel zero j n h g = absurd (omega arith)
-fuel (suc k) zero n h g = absurd (omega arith)
-fuel (suc k) (suc j) n h g =
-    ⊎_elim
-    (λ l. in_small k n l ∙ sym (in_small j n l))
-    (λ l. in_more k n l ∙ ap (λ (x : List ℕ). x ++ ((48 + n % 10) ∷ [])) (fuel k j (n / 10) (omega arith) (omega arith)) ∙ sym (in_more j n l))
-    (lt_or_ge n 10)
-
--- `digits` by its two equations
 pub digits_small : (n : ℕ) → n < 10 → digits n ≡ (48 + n) ∷ []
 unfolding digits
-digits_small n h = in_small n n h
+digits_small zero h = refl
+digits_small (suc n) h =
+    let q : suc n / 10 ≡ 0 = omega arith in
+    let r : suc n % 10 ≡ suc n = omega arith in
+    rw (digits_of_step 10 (suc n) (omega arith) (omega arith), q, r)
+
+-- those of a number above 0
+digits_above : (n : ℕ) → 0 < n → digits n ≡ map (λ d. 48 + d) (digits_of 10 n)
+unfolding digits
+digits_above zero h = absurd (omega arith)
+digits_above (suc n) h = refl
 
 pub digits_more : (n : ℕ) → 10 ≤ n → digits n ≡ digits (n / 10) ++ ((48 + n % 10) ∷ [])
-unfolding digits
-digits_more n h = in_more n n h ∙ ap (λ (x : List ℕ). x ++ ((48 + n % 10) ∷ [])) (fuel n (suc (n / 10)) (n / 10) (omega arith) (omega arith))
+digits_more n h = rw (digits_above n (omega arith), digits_above (n / 10) (omega arith), digits_of_step 10 n (omega arith) (omega arith), map-append)
 
 pub digits_snoc : (a d : ℕ) → 0 < a → d < 10 → digits (a * 10 + d) ≡ digits a ++ ((48 + d) ∷ [])
 digits_snoc a d h g =
@@ -66,17 +59,9 @@ pub digits_injective : (m n : ℕ) → digits m ≡ digits n → m ≡ n
 digits_injective m n e = sym (value_digits m) ∙ ap (value_from 0) e ∙ value_digits n
 
 pub length_digits : (n k : ℕ) → n < 10 ^ k → 0 < k → length (digits n) ≤ k
-length_digits =
-    tens (λ n. (k : ℕ) → n < 10 ^ k → 0 < k → length (digits n) ≤ k)
-    (λ n h k g p. rw (digits_small n h) (omega arith))
-    (λ n h f k g p. more n h f k g p)
-  where
-    more : (n : ℕ) → 10 ≤ n → ((k : ℕ) → n / 10 < 10 ^ k → 0 < k → length (digits (n / 10)) ≤ k) → (k : ℕ) → n < 10 ^ k → 0 < k → length (digits n) ≤ k
-    more n h f zero g p = absurd (omega arith)
-    more n h f (suc zero) g p = absurd (omega arith)
-    more n h f (suc (suc k)) g p =
-        let q : n < 10 ^ suc k * 10 = rw pow-suc at g in
-        rw (digits_more n h, length-append) (omega (arith, f (suc k) (omega arith) (omega arith)))
+unfolding digits
+length_digits zero k h p = omega arith
+length_digits (suc n) k h p = omega (arith, length-map (digits_of 10 (suc n)) (λ d. 48 + d), length-digits_of-le 10 k (suc n) (omega arith) h)
 
 pub length-digits-pos : (n : ℕ) → 0 < length (digits n)
 length-digits-pos =

@@ -1,16 +1,13 @@
 -- A number as decimal text (document 01, "The sheet"): how it is spelled, and which texts are numbers.
-use Rattle.std.specs.Prelude.{ℕ, zero, suc, ◌+◌, ◌-◌, ◌*◌, ◌/◌, ◌%◌, ◌^◌, ◌<◌, Bool, true, false, not, ◌&&◌, ◌||◌, cond, List, [], ◌∷◌, ◌++◌, length, get_or, ltb, leb, eqb, ℤ, pos, negsuc, nat_abs, Option, Some, None}
+use Rattle.std.specs.Prelude.{ℕ, zero, suc, ◌+◌, ◌-◌, ◌*◌, ◌^◌, ◌<◌, Bool, true, false, not, ◌&&◌, ◌||◌, cond, List, [], ◌∷◌, map, length, get_or, leb, eqb, ℤ, pos, negsuc, nat_abs, Option, Some, None}
+use Rattle.std.specs.Int.Digits.{digits_of}
 
 -- ---- spelling
 
--- n's digits, the leading one first, where n has at most k of them
-unfoldable pub digits_in : (k n : ℕ) → List ℕ
-digits_in zero n = []
-digits_in (suc k) n = cond (ltb n 10) ((48 + n) ∷ []) (digits_in k (n / 10) ++ ((48 + n % 10) ∷ []))
-
 -- "A number is written from its leading digit"
 unfoldable pub digits : ℕ → List ℕ
-digits n = digits_in (suc n) n
+digits zero = 48 ∷ []
+digits (suc n) = map (λ d. 48 + d) (digits_of 10 (suc n))
 
 -- a minus, or nothing
 abbrev pub sign : (negative : Bool) → List ℕ
