@@ -1,18 +1,19 @@
--- A batch over a grid that passes: the answer or the refusal of request k is the reply to it; so a batch of lines, read, converted and replied to,
--- is the front of a text, fed.
+-- A batch over a grid that passes: the answer or the refusal of request k is the reply to it.
 use Prim.Native.Nat.{ℕ, zero, suc, ◌+◌, ◌*◌, ◌≤◌, ◌<◌}
-use mathlib.Core.Path.{◌≡◌, refl, sym, ap, subst, ◌∙◌}
+use mathlib.Core.Path.{◌≡◌, refl, sym, ap, ◌∙◌}
 use mathlib.Core.Bool.{Bool, true, false, cond}
 use mathlib.Core.List.{List, [], ◌∷◌, ◌++◌, map, map-append}
 use native.Mathlib.Omega.{arith}
-use borrow.Author.Tests.{ne_eqb}
+use borrow.Author.Tests.{ne_eqb, le-ltb}
 use lib.Dec.{eqb}
 use lib.IntN.{ℤ, pos}
 use lib.ListN.{length, take, get_or}
 use lib.Seq.{get_or-take, length-take-le}
 use Rattle.laws.specs.Logic.{either_way}
 use Rattle.figures.specs.Outcome.{Outcome, answered, refused, map_answer}
-use Rattle.figures.specs.Points.{Point27, Point83, point27, point83}
+use Rattle.figures.specs.Points.{point27, point83}
+use Rattle.figures.specs.Points.{Point27}
+use Rattle.figures.specs.Points.{Point83}
 use Rattle.grid.specs.Grid.{Grid}
 use Rattle.grid.specs.Check.{verdict, Passes}
 use Rattle.shift.specs.Sign.{sign_of}
@@ -20,21 +21,15 @@ use Rattle.shift.proofs.SignLaws.{sign_told}
 use Rattle.convert.specs.Points.{on_grid}
 use Rattle.convert.specs.Convert.{shifted, to83, to27}
 use Rattle.convert.specs.declared.Shifted.{Shifted}
-use Rattle.convert.specs.Batch.{Answer, in83, in27, numbers_of, way_to83, way_to27, converted, request_outcome, converting, refusal_number, answers_to, refusals_to, answers_after, refusals_after}
-use Rattle.convert.proofs.BatchLaws.{all_fit}
+use Rattle.convert.specs.Batch.{numbers_of, way_to83, way_to27, converted, request_outcome, room_for, converting, refusal_number, answers_to, refusals_to, answers_after, refusals_after}
+use Rattle.convert.specs.declared.batch.Converted.{Converted}
 use Rattle.convert.proofs.Each.{answer_at, refusal-at}
 use Rattle.convert.proofs.Demands.{converts}
 use Rattle.requests.specs.Replies.{said83, said27, reply_to}
 use Rattle.requests.specs.declared.Reply.{Reply}
-use Rattle.listing.specs.Lines.{replies}
-use Rattle.list_state.specs.State.{listing_of}
-use Rattle.listing.specs.Pieces.{fed_replies, fed_text, fed_list}
-use Rattle.listing.specs.Batch.{request_by, request_at, shifted_at, point_at, reply_by, reply_at, up_to, BatchRead, RepliesPut}
-use Rattle.listing.specs.Needs.{FedFront}
-use Rattle.list_state.specs.declared.Listing.{Listing}
-use Rattle.list_state.specs.declared.Totals.{Totals}
-use Rattle.listing.specs.declared.reading.Batch.{Batch}
-use Rattle.listing.specs.declared.replying.Replied.{Replied}
+use Rattle.listing.specs.Filed.{max_batch, request_by}
+use Rattle.listing.specs.Batch.{request_at, requests_of, shifted_at, point_at, reply_by, up_to}
+use Rattle.listing.specs.declared.batch.Batch.{Batch}
 
 -- ---- one request
 
@@ -44,14 +39,14 @@ number_or (answered a) = 1
 number_or (refused n k) = n
 
 -- what stands in the places of request k, where `old` stood before
-abbrev Stands : (l old : List ℤ) (k : ℕ) → Outcome Answer → Type 0
+abbrev Stands : (l old : List ℤ) (k : ℕ) → Outcome Converted → Type 0
 Stands l old k o = (i : ℕ) → i < 4 → get_or l (4 * k + i) (pos 0) ≡ get_or (numbers_of o) i (get_or old (4 * k + i) (pos 0))
 
 first-place : (k : ℕ) → 4 * k + 0 ≡ 4 * k
 first-place k = omega arith
 
 module _ (l old : List ℤ) (k : ℕ) where
-  said_83 : (u : Outcome Shifted) → 0 < number_or u → let o = map_answer in83 u in Stands l old k o
+  said_83 : (u : Outcome Shifted) → 0 < number_or u → let o = map_answer Converted.In83 u in Stands l old k o
       → said83 u ≡ cond (eqb (refusal_number o) 0) (Reply.In83 (shifted_at l k)) (Reply.No (pos (refusal_number o)))
   said_83 (answered a) h r =
       let y = rw (first-place k) at (r 0 (omega arith)) in
@@ -61,7 +56,7 @@ module _ (l old : List ℤ) (k : ℕ) where
       sym (λ i. Reply.In83 (record { point = point83 (y i) (x i); signs = record { lat = s i; lon = t i } }))
   said_83 (refused n j) h r = rw (ne_eqb n 0 (λ e. omega arith)) refl
 
-  said_27 : (u : Outcome Point27) → 0 < number_or u → let o = map_answer in27 u in Stands l old k o
+  said_27 : (u : Outcome Point27) → 0 < number_or u → let o = map_answer Converted.In27 u in Stands l old k o
       → said27 u ≡ cond (eqb (refusal_number o) 0) (Reply.In27 (point_at l k)) (Reply.No (pos (refusal_number o)))
   said_27 (answered p) h r =
       let y = rw (first-place k) at (r 0 (omega arith)) in
@@ -98,61 +93,43 @@ module _ (g : Grid) (passes : Passes g) where
 
   -- ---- a batch, converted
 
-  module _ (n : ℕ) (ways : List ℕ) (points answers : List ℤ) (refusals : List ℕ)
-      (ww : n ≤ length ways) (pp : 2 * n ≤ length points) (aa : 4 * n ≤ length answers) (rr : n ≤ length refusals) where
-    abbrev o : ℕ → Outcome Answer
-    o = request_outcome g (take n ways) points
+  module _ (b : Batch) where
+    abbrev o : ℕ → Outcome Converted
+    o = request_outcome g (take b.lines b.ways) b.points
 
-    all : converting g (take n ways) points answers refusals ≡ answered n
-    unfolding converting
-    all =
-        let e : verdict g ≡ answered tt = passes in
-        let l : length (take n ways) ≡ n = length-take-le n ways ww in
-        rw (e, l) (all_fit n points answers refusals pp aa rr)
+    abbrev comes : Outcome ℕ
+    comes = converting g (take b.lines b.ways) b.points b.answers b.refusals
 
-    module _ {answers' : List ℤ} {refusals' : List ℕ}
-        (a : answers' ≡ answers_after (converting g (take n ways) points answers refusals) o answers)
-        (r : refusals' ≡ refusals_after (converting g (take n ways) points answers refusals) o refusals) where
-      filled : answers' ≡ answers_to o n answers
-      unfolding answers_after
-      filled = a ∙ ap (λ t. answers_after t o answers) all
+    module _ (few : b.lines ≤ max_batch) (w : length b.ways ≡ max_batch) (p : length b.points ≡ 2 * max_batch) (a : length b.answers ≡ 4 * max_batch) (r : length b.refusals ≡ max_batch) where
+      all : comes ≡ answered b.lines
+      unfolding converting room_for
+      all =
+          let e : verdict g ≡ answered tt = passes in
+          let l : length (take b.lines b.ways) ≡ b.lines = length-take-le b.lines b.ways (omega arith) in
+          let room : room_for b.lines b.points b.answers b.refusals ≡ answered b.lines =
+          rw (le-ltb (length b.points) (2 * b.lines) (omega arith), le-ltb (length b.answers) (4 * b.lines) (omega arith), le-ltb (length b.refusals) b.lines (omega arith)) in
+          rw (e, l) room
 
-      numbered : refusals' ≡ refusals_to o n refusals
-      unfolding refusals_after
-      numbered = r ∙ ap (λ t. refusals_after t o refusals) all
+      module _ {answers' : List ℤ} {refusals' : List ℕ} (aa : answers' ≡ answers_after comes o b.answers) (rr : refusals' ≡ refusals_after comes o b.refusals) where
+        filled : answers' ≡ answers_to o b.lines b.answers
+        unfolding answers_after
+        filled = aa ∙ ap (λ t. answers_after t o b.answers) all
 
-      reply_at_lem : (k : ℕ) → k < n → reply_to g (request_at ways points k) ≡ reply_at ways answers' refusals' k
-      reply_at_lem k h =
-          let w = get_or ways k 0 in
-          let y = get_or points (2 * k) (pos 0) in
-          let x = get_or points (2 * k + 1) (pos 0) in
-          let same : o k ≡ converted g w y x = ap (λ v. converted g v y x) (get_or-take n ways k 0 h) in
-          let p : Stands answers' answers k (converted g w y x) = λ i b.
-          ap (λ l. get_or l (4 * k + i) (pos 0)) filled ∙ answer_at o n k i answers h b aa ∙ ap (λ t. get_or (numbers_of t) i (get_or answers (4 * k + i) (pos 0))) same in
-          let m : get_or refusals' k 0 ≡ refusal_number (converted g w y x) = ap (λ l. get_or l k 0) numbered ∙ refusal-at o n k refusals h rr ∙ ap refusal_number same in
-          by_way w y x answers' answers k (eqb w way_to83) (eqb w way_to27) refl refl p ∙ sym (ap (reply_by w answers' k) m)
+        numbered : refusals' ≡ refusals_to o b.lines b.refusals
+        unfolding refusals_after
+        numbered = rr ∙ ap (λ t. refusals_after t o b.refusals) all
 
-      -- the replies from the answers are the replies to the requests
-      pub answers_put : {t : Totals} {room after : List ℕ} {d : Replied} → RepliesPut t (up_to (reply_at ways answers' refusals') n) n room after d → RepliesPut t (map (reply_to g) (up_to (request_at ways points) n)) n room after d
-      answers_put {t} {room} {after} {d} q =
-          subst (λ rs. RepliesPut t rs n room after d) (sym (map-up_to (reply_to g) (request_at ways points) (reply_at ways answers' refusals') n reply_at_lem)) q
+        one_reply : (k : ℕ) → k < b.lines → reply_to g (request_at b.ways b.points k) ≡ reply_by (get_or b.ways k 0) answers' k (get_or refusals' k 0)
+        one_reply k h =
+            let v = get_or b.ways k 0 in
+            let y = get_or b.points (2 * k) (pos 0) in
+            let x = get_or b.points (2 * k + 1) (pos 0) in
+            let same : o k ≡ converted g v y x = ap (λ u. converted g u y x) (get_or-take b.lines b.ways k 0 h) in
+            let st : Stands answers' b.answers k (converted g v y x) = λ i c.
+            ap (λ m. get_or m (4 * k + i) (pos 0)) filled ∙ answer_at o b.lines k i b.answers h c (omega arith) ∙ ap (λ t. get_or (numbers_of t) i (get_or b.answers (4 * k + i) (pos 0))) same in
+            let m : get_or refusals' k 0 ≡ refusal_number (converted g v y x) = ap (λ q. get_or q k 0) numbered ∙ refusal-at o b.lines k b.refusals h (omega arith) ∙ ap refusal_number same in
+            by_way v y x answers' b.answers k (eqb v way_to83) (eqb v way_to27) refl refl st ∙ sym (ap (reply_by v answers' k) m)
 
--- ---- a batch of lines
-
-module _ (g : Grid) (s : Listing) (text : List ℕ) {ways : List ℕ} {points : List ℤ} {b : Batch} (r : BatchRead s text ways points b) where
-  replied : fed_replies g s (take b.taken text) ≡ map (reply_to g) (up_to (request_at ways points) b.lines)
-  unfolding fed_replies replies
-  replied = ap (map (reply_to g)) r.asks
-
-  pub fed_batch : (b.lines ≡ 0 → ⊥) → {room after : List ℕ} {d : Replied} {l : Listing} → RepliesPut s.totals (map (reply_to g) (up_to (request_at ways points) b.lines)) b.lines room after d → l ≡ listing_of [] d.totals
-      → FedFront g s text room after (record { list = l; taken = b.taken; bytes = d.bytes })
-  unfolding fed_text fed_list
-  fed_batch n {room} {after} {d} {l} p e =
-      let q = subst (λ rs. RepliesPut s.totals rs b.lines room after d) (sym replied) p in
-      record {
-        within = r.within;
-        onward = λ k. omega (arith, n, r.counts);
-        next = e ∙ (λ i. listing_of (take 65 (sym (r.ended (omega (arith, n))) i)) (q.totals i));
-        put = q.put;
-        small = omega (arith, q.small, r.counts);
-      }
+        -- the replies to its lines are those to its requests
+        pub replies_converted : up_to (λ k. reply_by (get_or b.ways k 0) answers' k (get_or refusals' k 0)) b.lines ≡ map (reply_to g) (requests_of b)
+        replies_converted = sym (map-up_to (reply_to g) (request_at b.ways b.points) (λ k. reply_by (get_or b.ways k 0) answers' k (get_or refusals' k 0)) b.lines one_reply)

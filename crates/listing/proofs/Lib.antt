@@ -1,8 +1,9 @@
+pub mod Exits
 pub mod Cuts
+pub mod Whole
+pub mod Demands
 pub mod Steps
 pub mod RequestLaws
 pub mod ReplyLaws
 pub mod Batches
 pub mod Runs
-pub mod Whole
-pub mod Demands

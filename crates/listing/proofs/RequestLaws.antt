@@ -1,27 +1,27 @@
 -- Request lines read into ways and points: what each asks there, and what the loop keeps.
-use Prim.Native.Nat.{ℕ, zero, suc, ◌+◌, ◌-◌, ◌*◌, ◌≤◌, ◌<◌}
+use Prim.Native.Nat.{ℕ, zero, suc, ◌+◌, ◌*◌, ◌≤◌, ◌<◌}
 use mathlib.Core.Path.{◌≡◌, refl, sym, ap, ◌∙◌}
 use mathlib.Core.List.{List, [], ◌∷◌, ◌++◌}
 use native.Mathlib.Omega.{arith}
 use native.Mathlib.Numerals.{add-one}
-use borrow.Rule.Slice.PartMut.{mid_of}
+use Rattle.std.specs.Prelude.{Option, Some, None}
+use Rattle.std.specs.List.{position, position_or_len}
 use lib.IntN.{ℤ, pos}
-use lib.ListN.{length, take, drop, get_or, set, length-set, length-drop}
+use lib.ListN.{length, take, drop, set, length-set, length-drop}
 use lib.Seq.{get_or-set_same, get_or-set_other, take-add}
-use Rattle.slices.specs.Places.{index_of}
 use Rattle.figures.specs.Outcome.{Outcome, answered, refused}
-use Rattle.lines.specs.Text.{newline}
-use Rattle.convert.specs.Batch.{way_to83, way_to27}
 use Rattle.requests.specs.Requests.{request_in}
 use Rattle.requests.proofs.Forms.{Formed, request_formed}
 use Rattle.requests.specs.declared.Request.{Request}
-use Rattle.listing.specs.Lines.{requests_in, rest}
 use Rattle.list_state.specs.State.{fresh, held_line}
-use Rattle.listing.specs.Batch.{max_batch, way_of, pair_put, point_put, request_by, request_at, up_to, BatchRead}
 use Rattle.list_state.specs.declared.Listing.{Listing}
 use Rattle.list_state.proofs.Holding.{held_of}
+use Rattle.listing.specs.Lines.{requests_in, rest}
+use Rattle.listing.specs.Filed.{max_batch, is_newline, filed, pair_put, request_by}
+use Rattle.listing.specs.Batch.{request_at, up_to, BatchRead}
+use Rattle.listing.specs.declared.batch.Batch.{Batch}
 use Rattle.listing.proofs.Cuts.{requests_cut, rest_cut}
-use Rattle.listing.proofs.Steps.{to_newline}
+use Rattle.listing.proofs.Steps.{newline_at, to_newline}
 
 pub up_to_same : {A : Type 0} (f g : ℕ → A) (n : ℕ) → ((k : ℕ) → k < n → f k ≡ g k) → up_to f n ≡ up_to g n
 up_to_same f g zero h = refl
@@ -29,147 +29,113 @@ up_to_same f g (suc n) h = λ i. up_to_same f g n (λ k b. h k (omega arith)) i 
 
 -- ---- one line
 
-length-pair : (k : ℕ) (y x : ℤ) (l : List ℤ) → length (pair_put k y x l) ≡ length l
-length-pair k y x l = length-set (set l (2 * k) y) (2 * k + 1) x ∙ length-set l (2 * k) y
+-- it asks what was read
+filed_asks : (q : Outcome Request) → Formed q → let f = filed q in request_by f.way f.lat f.lon ≡ q
+unfolding request_by
+filed_asks (answered (Request.To83 p)) e = refl
+filed_asks (answered (Request.To27 f)) e = refl
+filed_asks (refused n place) e = e
 
-length_point : (k : ℕ) (q : Outcome Request) (l : List ℤ) → length (point_put k q l) ≡ length l
-length_point k (answered (Request.To83 p)) l = length-pair k p.lat.0 p.lon.0 l
-length_point k (answered (Request.To27 f)) l = length-pair k f.lat.0 f.lon.0 l
-length_point k (refused n place) l = refl
+module _ (k j : ℕ) (ways : List ℕ) (points : List ℤ) (w : ℕ) (y x : ℤ) where
+  abbrev m : List ℤ
+  m = set points (2 * k) y
 
-module _ (k : ℕ) (ways : List ℕ) (points : List ℤ) (g : k < length ways) (h : 2 * k + 1 < length points) where
-  pair_here : (w : ℕ) (y x : ℤ) → request_at (set ways k w) (pair_put k y x points) k ≡ request_by w y x
-  pair_here w y x =
-      let m = set points (2 * k) y in
+  put_here : j ≡ k → k < length ways → 2 * k + 1 < length points → request_at (set ways k w) (pair_put k y x points) j ≡ request_by w y x
+  put_here e g h =
       let a = get_or-set_same ways k w 0 g in
       let b = get_or-set_other m (2 * k + 1) (2 * k) x (pos 0) (λ e. omega arith) ∙ get_or-set_same points (2 * k) y (pos 0) (omega arith) in
       let d = get_or-set_same m (2 * k + 1) x (pos 0) (omega (arith, length-set points (2 * k) y)) in
-      λ i. request_by (a i) (b i) (d i)
+      rw e (λ i. request_by (a i) (b i) (d i))
 
-  -- line k asks what was read
-  asked_here : (q : Outcome Request) → Formed q → request_at (set ways k (way_of q)) (point_put k q points) k ≡ q
-  unfolding request_by
-  asked_here (answered (Request.To83 p)) e = pair_here way_to83 p.lat.0 p.lon.0
-  asked_here (answered (Request.To27 f)) e = pair_here way_to27 f.lat.0 f.lon.0
-  asked_here (refused n place) e = ap (λ w. request_by w (get_or points (2 * k) (pos 0)) (get_or points (2 * k + 1) (pos 0))) (get_or-set_same ways k 0 0 g) ∙ e
-
--- and the lines before it ask what they asked
-module _ (k j : ℕ) (ways : List ℕ) (points : List ℤ) (g : j < k) where
-  pair_other : (w : ℕ) (y x : ℤ) → request_at (set ways k w) (pair_put k y x points) j ≡ request_at ways points j
-  pair_other w y x =
-      let m = set points (2 * k) y in
+  -- and the lines before it ask what they asked
+  put_other : j < k → request_at (set ways k w) (pair_put k y x points) j ≡ request_at ways points j
+  put_other g =
       let a = get_or-set_other ways k j w 0 (λ e. omega arith) in
       let b = get_or-set_other m (2 * k + 1) (2 * j) x (pos 0) (λ e. omega arith) ∙ get_or-set_other points (2 * k) (2 * j) y (pos 0) (λ e. omega arith) in
       let d = get_or-set_other m (2 * k + 1) (2 * j + 1) x (pos 0) (λ e. omega arith) ∙ get_or-set_other points (2 * k) (2 * j + 1) y (pos 0) (λ e. omega arith) in
       λ i. request_by (a i) (b i) (d i)
 
-  asked_other : (q : Outcome Request) → request_at (set ways k (way_of q)) (point_put k q points) j ≡ request_at ways points j
-  asked_other (answered (Request.To83 p)) = pair_other way_to83 p.lat.0 p.lon.0
-  asked_other (answered (Request.To27 f)) = pair_other way_to27 f.lat.0 f.lon.0
-  asked_other (refused n place) = ap (λ w. request_by w (get_or points (2 * j) (pos 0)) (get_or points (2 * j + 1) (pos 0))) (get_or-set_other ways k j 0 0 (λ e. omega arith))
+pub no_some : (o : Option ℕ) → ((n : ℕ) → o ≡ Some n → ⊥) → o ≡ None
+no_some (Some n) h = absurd (h n refl)
+no_some None h = refl
 
 -- ---- what the loop keeps
 
 pub record ReadSoFar (s : Listing) (text ways : List ℕ) (points : List ℤ) (line : Listing) (k taken : ℕ) : Type 0 where
-  pub few : k ≤ max_batch
   pub within : taken ≤ length text
   pub counts : k ≤ taken
   pub begun : k ≡ 0 → taken ≡ 0
   pub left : rest (held_line s) (take taken text) ≡ held_line line
   pub ended : 0 < k → held_line line ≡ []
   pub asks : requests_in (held_line s) (take taken text) ≡ up_to (request_at ways points) k
-  pub ways_long : max_batch ≤ length ways
-  pub points_long : 2 * max_batch ≤ length points
+  pub ways_long : length ways ≡ max_batch
+  pub points_long : length points ≡ 2 * max_batch
 
-pub read_none : (s : Listing) (text ways : List ℕ) (points : List ℤ) → (max_batch ≤ length ways) × (2 * max_batch ≤ length points) → ReadSoFar s text ways points s 0 0
+pub read_none : (s : Listing) (text ways : List ℕ) (points : List ℤ) → length ways ≡ max_batch → length points ≡ 2 * max_batch → ReadSoFar s text ways points s 0 0
 unfolding requests_in rest
-read_none s text ways points h = record {
-  few = omega arith;
+read_none s text ways points w p = record {
   within = omega arith;
   counts = omega arith;
   begun = λ e. refl;
   left = refl;
   ended = λ e. absurd (omega arith);
   asks = refl;
-  ways_long = h.0;
-  points_long = h.1;
+  ways_long = w;
+  points_long = p;
 }
 
-module _ {s : Listing} (text : List ℕ) {ways : List ℕ} {points : List ℤ} {line : Listing} {k taken end : ℕ}
-    (f : ReadSoFar s text ways points line k taken) (found : end ≡ taken + index_of newline (drop taken text)) where
+module _ {s : Listing} (text : List ℕ) {ways : List ℕ} {points : List ℤ} {line : Listing} {k taken : ℕ} (f : ReadSoFar s text ways points line k taken) where
   back : List ℕ
   back = drop taken text
 
-  next_end : end ≡ taken + index_of newline back
-  unfolding back
-  next_end = found
-
-  -- no further line ends
-  pub read_end : length text ≤ end → BatchRead s text ways points (record { lines = k; taken = taken })
-  unfolding back
-  read_end h = record {
-    few = f.few;
-    within = f.within;
-    counts = f.counts;
-    none = λ z. let e = f.begun z in omega (arith, e, next_end, ap (λ n. index_of newline (drop n text)) e);
-    ended = λ g. f.left ∙ f.ended g;
-    asks = f.asks;
-  }
-
   -- one line more
-  module _ (h : end < length text) (b : k < max_batch) {q : Outcome Request} (asks : q ≡ request_in (held_line line ++ mid_of taken (end - taken) text))
-      {ways' : List ℕ} {points' : List ℤ} (way : ways' ≡ set ways k (way_of q)) (point : points' ≡ point_put k q points) {next : Listing} (new : next ≡ fresh) where
-    front : List ℕ
-    front = take (suc (index_of newline back)) back
-
-    joined : take (end + 1) text ≡ take taken text ++ front
-    unfolding front back
-    joined =
-        let e : end + 1 ≡ taken + suc (index_of newline back) = omega (arith, next_end) in
-        ap (λ n. take n text) e ∙ take-add taken (suc (index_of newline back)) text
-
-    line_ends : (requests_in (held_line line) front ≡ request_in (held_line line ++ take (index_of newline back) back) ∷ []) × (rest (held_line line) front ≡ [])
-    unfolding front back
-    line_ends = to_newline (held_line line) back (omega (arith, next_end, length-drop taken text))
-
-    this_line : request_in (held_line line ++ take (index_of newline back) back) ≡ q
+  module _ {n : ℕ} (found : position is_newline (drop taken text) ≡ Some n) {q : Outcome Request} (asks : q ≡ request_in (held_line line ++ take n (drop taken text)))
+      {ways' : List ℕ} {points' : List ℤ} (way : ways' ≡ set ways k (filed q).way) (point : points' ≡ pair_put k (filed q).lat (filed q).lon points)
+      (b : k < max_batch) {next : Listing} (new : next ≡ fresh) where
+    at : (n ≡ position_or_len is_newline back) × (n < length back)
     unfolding back
-    this_line = let e : index_of newline back ≡ end - taken = omega (arith, next_end) in ap (λ n. request_in (held_line line ++ take n back)) e ∙ sym asks
+    at = newline_at (drop taken text) found
 
-    formed : Formed q
-    formed = rw asks (request_formed (held_line line ++ mid_of taken (end - taken) text))
+    front : List ℕ
+    front = take (suc n) back
+
+    joined : take (taken + (n + 1)) text ≡ take taken text ++ front
+    unfolding front back
+    joined = rw add-one (take-add taken (suc n) text)
+
+    line_ends : (requests_in (held_line line) front ≡ q ∷ []) × (rest (held_line line) front ≡ [])
+    unfolding front back
+    line_ends = let e = to_newline (held_line line) back n at.0 at.1 in (e.0 ∙ ap (λ r. r ∷ []) (sym asks), e.1)
 
     empty : held_line next ≡ []
     empty = ap held_line new ∙ held_of [] fresh.totals (omega arith)
 
     same : up_to (request_at ways points) k ≡ up_to (request_at ways' points') k
-    same = up_to_same (request_at ways points) (request_at ways' points') k (λ j g. sym ((λ i. request_at (way i) (point i) j) ∙ asked_other k j ways points g q))
+    same = up_to_same (request_at ways points) (request_at ways' points') k (λ j g. rw (way, point) (sym (put_other k j ways points (filed q).way (filed q).lat (filed q).lon g)))
 
     this : q ≡ request_at ways' points' k
-    this = sym ((λ i. request_at (way i) (point i) k) ∙ asked_here k ways points (omega (arith, f.ways_long)) (omega (arith, f.points_long)) q formed)
+    this = rw (way, point) (sym (put_here k k ways points (filed q).way (filed q).lat (filed q).lon refl (omega (arith, f.ways_long)) (omega (arith, f.points_long)) ∙ filed_asks q (rw asks (request_formed (held_line line ++ take n (drop taken text))))))
 
-    pub read_more : ReadSoFar s text ways' points' next (k + 1) (end + 1)
+    pub read_more : ReadSoFar s text ways' points' next (k + 1) (taken + (n + 1))
+    unfolding back
     read_more = record {
-      few = omega arith;
-      within = omega arith;
-      counts = omega (arith, f.counts, next_end);
+      within = omega (arith, at.1, length-drop taken text);
+      counts = omega (arith, f.counts);
       begun = λ z. absurd (omega arith);
       left = ap (rest (held_line s)) joined ∙ rest_cut (held_line s) (take taken text) front ∙ ap (λ l. rest l front) f.left ∙ line_ends.1 ∙ sym empty;
       ended = λ z. empty;
       asks = rw (add-one k) (ap (requests_in (held_line s)) joined ∙ requests_cut (held_line s) (take taken text) front
-          ∙ (λ i. (f.asks ∙ same) i ++ (ap (λ l. requests_in l front) f.left ∙ line_ends.0 ∙ ap (λ r. r ∷ []) (this_line ∙ this)) i));
-      ways_long = omega (arith, f.ways_long, ap length way, length-set ways k (way_of q));
-      points_long = omega (arith, f.points_long, ap length point, length_point k q points);
+          ∙ (λ i. (f.asks ∙ same) i ++ (ap (λ l. requests_in l front) f.left ∙ line_ends.0 ∙ ap (λ r. r ∷ []) this) i));
+      ways_long = rw way (length-set ways k (filed q).way ∙ f.ways_long);
+      points_long = rw point (length-set (set points (2 * k) (filed q).lat) (2 * k + 1) (filed q).lon ∙ length-set points (2 * k) (filed q).lat ∙ f.points_long);
     }
 
--- the batch is full
-pub read_full : {s : Listing} {text ways : List ℕ} {points : List ℤ} {line : Listing} {k taken : ℕ} → ReadSoFar s text ways points line k taken → max_batch ≤ k
-    → BatchRead s text ways points (record { lines = k; taken = taken })
-read_full f h = record {
-  few = f.few;
-  within = f.within;
-  counts = f.counts;
-  none = λ z. absurd (omega arith);
-  ended = λ g. f.left ∙ f.ended g;
-  asks = f.asks;
-}
+  -- no further line ends, or the batch is full
+  pub read_all : (b : Batch) → b.ways ≡ ways → b.points ≡ points → b.lines ≡ k → (k ≡ 0 → position is_newline (drop taken text) ≡ None) → BatchRead s text b taken
+  read_all b w p l n = record {
+    within = f.within;
+    counts = omega (arith, f.counts);
+    none = λ z. rw (f.begun (sym l ∙ z)) at (n (sym l ∙ z));
+    ended = λ g. f.left ∙ f.ended (omega arith);
+    asks = rw (w, p, l) f.asks;
+  }

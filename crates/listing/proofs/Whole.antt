@@ -2,6 +2,7 @@
 use Prim.Native.Nat.{ℕ, zero, suc, ◌+◌, ◌^◌, ◌≤◌, ◌<◌}
 use mathlib.Core.Path.{◌≡◌, refl, sym, ap, ◌∙◌}
 use mathlib.Core.Bool.{cond}
+use Rattle.std.specs.Prelude.{None}
 use mathlib.Core.List.{List, [], ◌∷◌, ◌++◌, map, append-nil, append_assoc}
 use native.Mathlib.Omega.{arith}
 use borrow.Author.Tests.{ne_eqb}
@@ -13,12 +14,12 @@ use mir.Syntax.{w64}
 use mir.Val.{to_z}
 use Rattle.laws.specs.Logic.{lt_z_true, either_way}
 use Rattle.laws.specs.Over.{over}
-use Rattle.writing.specs.Writing.{Wrote}
-use Rattle.writing.specs.declared.Written.{Written}
 use Rattle.decimal.proofs.Signs.{read_pos}
 use Rattle.lines.specs.Text.{newline}
 use Rattle.grid.specs.Grid.{Grid}
-use Rattle.grid.specs.Rules.{node_count_or0}
+use Rattle.grid.specs.Rules.{broken_rule, node_count, node_count_or0}
+use Rattle.grid.specs.Check.{Passes}
+use Rattle.grid.proofs.Passing.{good}
 use Rattle.requests.specs.Requests.{request_in}
 use Rattle.requests.specs.Replies.{is_answer, reply_to, reply_text}
 use Rattle.requests.specs.declared.Reply.{Reply}
@@ -31,8 +32,11 @@ use Rattle.listing.proofs.Cuts.{texts-append, answers-append, refusals-append}
 
 -- ---- the first line, whose number is as the machine has it
 
-pub sheet_wrote : (g : Grid) {r : ℕ} {room after : List ℕ} {w : Written} → (r ≡ node_count_or0 g.header) × (r ≤ 2048) → Wrote (reply_text (Reply.Sheet (to_z w64 r))) room after w → Wrote (sheet_text g) room after w
-sheet_wrote g {r} e w = let z = read_pos r (omega arith) ∙ ap pos e.0 in rw z at w
+pub sheet_told : (g : Grid) → Passes g → {n : ℕ} → (n ≡ node_count g.header) × (n ≤ 2048) → reply_text (Reply.Sheet (to_z w64 n)) ≡ sheet_text g
+unfolding node_count_or0
+sheet_told g passes {n} e =
+    let u : broken_rule g.header ≡ None = (good g passes).unbroken in
+    ap (λ x. reply_text (Reply.Sheet x)) (read_pos n (omega arith) ∙ rw u (ap pos e.0))
 
 -- ---- totals below the greatest
 

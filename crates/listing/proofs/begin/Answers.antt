@@ -1,19 +1,16 @@
-use Rattle.std.proofs.Common.{refl, ◌∙◌}
-use Rattle.figures.proofs.Laws.{refused_first, passed_first}
-use Rattle.writing.specs.Writing.{room_after}
+use Rattle.std.proofs.Common.{ap, ◌∙◌}
+use Rattle.figures.proofs.Laws.{passed_first}
 use Rattle.writing.proofs.Laws.{wrote_room}
-use Rattle.grid.specs.Grid.{grid_of}
-use Rattle.listing.specs.Listing.{beginning}
-use Rattle.listing.proofs.Whole.{sheet_wrote}
+use Rattle.grid.specs.Lent.{lent}
+use Rattle.listing.specs.Listing.{beginning, sheet_text}
+use Rattle.listing.proofs.Whole.{sheet_told}
+use Rattle.listing.proofs.Exits.{wrote_within}
 use Rattle.listing.proofs.begin.Goals as goal
 
-pub returns-in-Refused : goal.returns-in-Refused
-unfolding beginning room_after
-returns-in-Refused c = record { answer = refused_first _ c.in-Refused.ensures; text = refl }
-
-pub returns-in-Passes : goal.returns-in-Passes
+pub returns : goal.returns
 unfolding beginning
-returns-in-Passes c =
-    let a = c.args in
-    let s = sheet_wrote (grid_of a.h a.lat.now a.lon.now) c.node_count.ensures c.write.ensures.wrote in
-    record { answer = s.answer ∙ passed_first _ c.in-Passes.ensures; text = wrote_room s }
+returns c =
+    let k = c.in_ok-check in
+    let told = sheet_told (lent k.field-0.grid) k.field-0.passes c.node_count-nodes.ensures ∙ ap sheet_text k.ensures.same in
+    let w = rw told at c.write.ensures.wrote in
+    record { answer = w.answer ∙ passed_first _ k.ensures.verdict; text = wrote_room w; within = wrote_within c.write.result w }

@@ -1,9 +1,9 @@
-use Rattle.std.proofs.Common.{arith}
-use Rattle.writing.proofs.Laws.{counted_short, counted_fits}
+use Rattle.std.proofs.Common.{arith, rules}
+use Rattle.listing.specs.Pieces.{end_text}
+use Rattle.listing.proofs.Exits.{wrote_within}
 use Rattle.listing.proofs.finish.Goals as goal
 
-pub returns-then-room-needed : goal.returns-then-room-needed
-returns-then-room-needed c = counted_short _ _ (omega arith) c.put_end-needed.ensures c.if-room-needed.true
-
 pub returns : goal.returns
-returns c = counted_fits _ _ (omega arith) c.put_end-needed.ensures c.if-room-needed.false c.put_end.ensures
+returns c =
+    let w = c.write.ensures.wrote (end_text c.args.list) (record { each = λ before after n q. search rules }) (λ h. absurd (omega arith)) in
+    record { wrote = w; within = wrote_within c.write.result w }

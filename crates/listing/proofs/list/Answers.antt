@@ -1,16 +1,15 @@
-use Rattle.std.proofs.Common.{refl, ◌∙◌}
-use Rattle.figures.proofs.Laws.{refused_first, passed_first}
-use Rattle.writing.specs.Writing.{room_after}
+use Rattle.std.proofs.Common.{◌∙◌, arith, rules}
+use Rattle.figures.proofs.Laws.{passed_first}
+use Rattle.grid.specs.Lent.{lent}
+use Rattle.listing.specs.Listing.{listing, list_text}
 use Rattle.writing.proofs.Laws.{wrote_room}
-use Rattle.listing.specs.Listing.{listing}
+use Rattle.listing.proofs.Exits.{wrote_within}
 use Rattle.listing.proofs.list.Goals as goal
 
-pub returns-in-Refused : goal.returns-in-Refused
-unfolding listing room_after
-returns-in-Refused c = record { answer = refused_first _ c.in-Refused.ensures; text = refl }
-
-pub returns-in-Passes : goal.returns-in-Passes
+pub returns : goal.returns
 unfolding listing
-returns-in-Passes c =
-    let e = c.list_checked.ensures in
-    record { answer = e.answer ∙ passed_first _ c.in-Passes.ensures; text = wrote_room e }
+returns c =
+    let e = c.in_ok-checked.ensures in
+    let text = list_text (lent c.args.grid) c.args.text.now in
+    let w = c.write.ensures.wrote text (record { each = λ before after n p. rw (← e.same) (search rules) }) (λ h. absurd (omega arith)) in
+    record { answer = w.answer ∙ passed_first _ e.verdict; text = wrote_room w; within = wrote_within c.write.result w }

@@ -1,17 +1,18 @@
-use Rattle.std.proofs.Common.{ap, ◌∙◌, eq-eqb, ne_eqb, arith}
-use Rattle.writing.proofs.Laws.{lent_short, wrote_put, put_rest}
+use Rattle.std.proofs.Common.{ap, ◌∙◌, eq-eqb, ne_eqb, arith, rules}
+use Rattle.writing.proofs.Laws.{put_added}
 use Rattle.list_state.specs.State.{totals_reply}
+use Rattle.requests.specs.Replies.{reply_text}
 use Rattle.listing.specs.Pieces.{end_text}
 use Rattle.listing.proofs.putting.put_end.Goals as goal
 
 pub returns-then-list-eq0 : goal.returns-then-list-eq0
 unfolding end_text
 returns-then-list-eq0 c =
-    rw (eq-eqb c.args.list.length 0 c.if-list-eq0.true) (wrote_put (rw c.reply.ensures at c.write.ensures.wrote) c.bytes.ensures (omega arith))
+    rw (eq-eqb c.args.list.length 0 c.if-list-eq0.true) (rw c.reply.ensures at c.put.ensures.put)
 
 pub returns : goal.returns
 unfolding end_text
 returns c =
-    let p = wrote_put c.write-2.ensures.wrote c.bytes-at.ensures (omega arith) in
-    let q = wrote_put (rw (c.reply-done.ensures ∙ ap totals_reply c.count.ensures) at c.write-3.ensures.wrote) c.bytes-2.ensures (lent_short c.least-from.result c.write-2.new.room (omega (arith, p.kept))) in
-    rw (ne_eqb c.args.list.length 0 c.if-list-eq0.false) (put_rest p c.least-from.ensures (omega arith) q c.saturating_add.ensures)
+    let e = c.reply-done.ensures ∙ ap totals_reply c.count.ensures in
+    let d = reply_text c.reply-done.result in
+    rw (ne_eqb c.args.list.length 0 c.if-list-eq0.false, ← e) (put_added c.put-2.ensures.put (c.put_behind.ensures.added d (record { each = λ before after n p. search rules })) (omega arith))

@@ -1,10 +1,10 @@
-use Rattle.std.proofs.Common.{◌-◌, length}
-use Rattle.grid.specs.Grid.{grid_of}
+use Rattle.std.proofs.Common.{length}
+use Rattle.grid.specs.Lent.{lent}
 use Rattle.listing.proofs.Runs.{FedSoFar}
 use Rattle.listing.proofs.putting.put_replies.Given as goal
 
-abbrev pub invariant-loop-taken : goal.invariant-loop-taken
-invariant-loop-taken l = FedSoFar (grid_of l.h l.lat l.lon) l.initial.next l.piece l.fn.room l.room l.next l.taken l.bytes
+abbrev pub invariant-loop-rest : goal.invariant-loop-rest
+invariant-loop-rest l = FedSoFar (lent l.grid.grid) l.fn.list l.piece l.fn.room l.list l.rest l.room l.bytes
 
-abbrev pub decreases-loop-taken : goal.decreases-loop-taken
-decreases-loop-taken l = length l.piece - l.taken
+abbrev pub decreases-loop-rest : goal.decreases-loop-rest
+decreases-loop-rest l = length l.rest

@@ -1,9 +1,0 @@
-use Rattle.std.proofs.Common.{arith}
-use Rattle.writing.proofs.Laws.{counted_short, counted_fits}
-use Rattle.listing.proofs.list_checked.Goals as goal
-
-pub returns-then-room-needed : goal.returns-then-room-needed
-returns-then-room-needed c = counted_short _ _ (omega arith) c.put_list-needed.ensures c.if-room-needed.true
-
-pub returns : goal.returns
-returns c = counted_fits _ _ (omega arith) c.put_list-needed.ensures c.if-room-needed.false c.put_list.ensures
