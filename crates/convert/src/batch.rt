@@ -5,9 +5,7 @@ ghost use Rattle.grid.specs.Lent.{lent};
 ghost use Rattle.convert.specs.Convert.{to83};
 ghost use Rattle.convert.specs.Batch.{number_of, way_of, converted, request_outcome, room_for, converting, stored, refusal_number, answers_to, refusals_to, answers_after, refusals_after};
 
-use super::cells::exact_at;
-use super::offsets::position_of;
-use super::{Shifted, inverse, shift_point};
+use super::{Shifted, forward, inverse};
 use figures::{Point27, Point83, Refusal};
 use grid::{CheckedGrid, Grid};
 
@@ -110,17 +108,9 @@ fn convert_one(checked: CheckedGrid, way: u8, y: i64, x: i64) -> Result<Converte
     ensures { outcome result ≡ converted (lent checked.entry.grid) way y x }
 {
     match Way::try_from(way)? {
-        Way::To83 => Ok(Converted::In83(forward_one(checked, Point27::new(y, x))?)),
+        Way::To83 => Ok(Converted::In83(forward(checked, Point27::new(y, x))?)),
         Way::To27 => Ok(Converted::In27(inverse(checked, Point83::new(y, x))?)),
     }
-}
-
-// As `super::forward`, for the loop, which is the faster for it.
-fn forward_one(checked: CheckedGrid, p: Point27) -> Result<Shifted, Refusal>
-    ensures { outcome result ≡ to83 (lent checked.entry.grid) p }
-{
-    let at = position_of(checked, p).ok_or(Refusal::OffGrid)?;
-    Ok(shift_point(p, exact_at(checked, at)))
 }
 
 // Stores the answer of request `k` in its places, and answers the number of its refusal, or 0.

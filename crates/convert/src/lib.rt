@@ -56,7 +56,8 @@ impl Shifted {
     }
 }
 
-// `to83` over a grid that was checked.
+// `to83` over a grid that was checked. Merged into the loop of a batch, which is the faster for it.
+#[inline(always)]
 fn forward(checked: CheckedGrid, p: Point27) -> Result<Shifted, Refusal>
     ensures { outcome result ≡ to83 (lent checked.entry.grid) p }
 {
@@ -90,6 +91,8 @@ fn answer_of(p: Point27, s: Shift) -> Point83
 }
 
 // `to27` over a grid that was checked: the candidate is the point if its answer is the figure; otherwise no point is.
+// Merged into the loop of a batch as well.
+#[inline(always)]
 fn inverse(checked: CheckedGrid, f: Point83) -> Result<Point27, Refusal>
     ensures { outcome result ≡ to27 (lent checked.entry.grid) f }
 {
