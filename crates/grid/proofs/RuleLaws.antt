@@ -31,14 +31,6 @@ pub between_true : {lo x hi : ℤ} → lo ≤ℤ x → x ≤ℤ hi → between l
 unfolding between
 between_true a b = rw (le_z_true a, le_z_true b)
 
-pub below-low : (hi : ℤ) {lo x : ℤ} → x <ℤ lo → false ≡ between lo x hi
-unfolding between
-below-low hi {lo} {x} h = rw (le_z_false h)
-
-pub from_low : (hi : ℤ) {lo x : ℤ} → lo ≤ℤ x → le_z x hi ≡ between lo x hi
-unfolding between
-from_low hi {lo} {x} h = rw (le_z_true h)
-
 pub between_within : {lo x hi : ℤ} (K : ℕ) → Between lo x hi → Within K lo → Within K hi → Within K x
 between_within K b l h = omega (arith, ints)
 

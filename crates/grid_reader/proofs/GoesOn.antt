@@ -1,24 +1,24 @@
 -- Every state that a text comes to goes on to a text of the form.
 use Prim.Native.Nat.{ℕ, zero, suc, ◌+◌, ◌-◌, ◌*◌, ◌/◌, ◌%◌, ◌≤◌, ◌<◌}
 use mathlib.Core.Path.{◌≡◌, refl, sym, ap, ◌∙◌, subst}
-use mathlib.Core.Bool.{Bool, true, false, not, ◌&&◌, cond}
+use mathlib.Core.Bool.{Bool, true, false, not, ◌&&◌}
 use mathlib.Core.List.{List, [], ◌∷◌, ◌++◌}
 use mathlib.Core.Logic.{◌⊎◌, inl, inr}
 use native.Mathlib.Omega.{arith}
 use borrow.Author.Tests.{eqb-true, eqb-false, eq-eqb, ne_eqb, lt-ltb}
 use lib.Dec.{eqb}
-use lib.IntN.{ℤ}
+use lib.IntN.{ℤ, pos}
 use Rattle.laws.specs.Logic.{and_false}
-use Rattle.figures.specs.Refusal.{number_of}
-use Rattle.decimal.specs.Pushing.{none, number, pushed, value_of}
+use Rattle.std.specs.Prelude.{Option, Some, None}
+use Rattle.figures.specs.Outcome.{Outcome, answered, refused}
+use Rattle.decimal.specs.Pushing.{none, number, pushed, signed, value_of}
 use Rattle.decimal.specs.declared.Number.{Number}
-use Rattle.decimal.specs.declared.Pushed.{Pushed}
+use Rattle.decimal.proofs.Grown.{value_small}
 use Rattle.decimal.proofs.Spelled.{first_digit, more_digit}
 use Rattle.grid.specs.Grid.{Nodes, node_room}
 use Rattle.grid_reader.specs.Scan.{number_sign, count_at, whole_at, form_at, start, closed, leads, grown, number_step, literal_step, step, fed, finished}
-use Rattle.grid_reader.specs.declared.Scan.{Scan}
-use Rattle.grid_reader.specs.declared.Step.{Step}
-use Rattle.grid_reader.specs.declared.Taken.{Taken}
+use Rattle.grid_reader.specs.declared.scanner.Scan.{Scan}
+use Rattle.grid_reader.specs.declared.scanner.Step.{Step}
 use Rattle.grid_reader.proofs.Cuts.{fed_pieces}
 use Rattle.grid_reader.proofs.Onward.{read_from, onward, one_byte}
 use Rattle.grid_reader.proofs.Count.{Front, leads_front, front_leads}
@@ -35,8 +35,12 @@ abbrev way : Scan → ℕ
 way s = 100 * (2048 - s.node) + (whole_at - s.at)
 
 -- of the number under way: to begin, and then to grow to the most nodes
+abbrev to_grow : Option ℕ → ℕ
+to_grow None = 2049
+to_grow (Some m) = 2048 - m
+
 abbrev left : Number → ℕ
-left n = cond n.begun (2048 - n.magnitude) 2049
+left n = to_grow n.magnitude
 
 abbrev size : Scan → ℕ
 size s = 3000 * way s + left s.number
@@ -61,8 +65,8 @@ next_digit c m p l f n = go f (eqb (c / 10) m) refl (eqb (c / 100) m) refl (eqb 
 module _ (room : ℕ) where
   -- ---- some byte leads on, or to a refusal that is not of the form
   module _ (s : Scan) (o : Reached room s) where
-    abbrev Forward : Step → Type 0
-    Forward = After (λ t. size t < size s) (λ w. number_of w ≡ 1 → ⊥)
+    abbrev Forward : Outcome Step → Type 0
+    Forward = After (λ t. size t < size s) (λ n _. n ≡ 1 → ⊥)
 
     -- the form's byte
     literal_forward : eqb (form_at s.at) number_sign ≡ false → s.at < whole_at → Forward (step room s (form_at s.at))
@@ -74,7 +78,7 @@ module _ (room : ℕ) where
       numbered = eqb-true (form_at s.at) number_sign m
 
       -- the byte that ends a number
-      closes_forward : (s.at ≡ count_at → s.number.magnitude ≡ s.count) → {x : ℤ} {z : Step} → Closes room s x z → Forward z
+      closes_forward : {x : ℤ} {z : Outcome Step} → (s.at ≡ count_at → x ≡ pos s.count) → Closes room s x z → Forward z
       closes_forward f (in_header l) = omega arith
       closes_forward f (header-whole e h r g) = omega arith
       closes_forward f (lat_whole e) = omega arith
@@ -82,17 +86,21 @@ module _ (room : ℕ) where
       closes_forward f (last_node_lem e l) = omega arith
       closes_forward f (text-whole e q) = omega arith
       closes_forward f (another_count e q) = absurd (q (f e))
-      closes_forward f (judged w n) = n
+      closes_forward f (judged n k e) = e
 
-      closed-step : s.number.begun ≡ true → step room s (form_at (s.at + 1)) ≡ closed room s (value_of s.number)
+      closed-step : {x : ℤ} → value_of s.number ≡ Some x → step room s (form_at (s.at + 1)) ≡ closed room s x
       unfolding step number_step
-      closed-step b = rw (m, eq-eqb (form_at (s.at + 1)) (form_at (s.at + 1)) refl, b)
+      closed-step e = rw (m, eq-eqb (form_at (s.at + 1)) (form_at (s.at + 1)) refl, e)
 
-      close_forward : s.number.begun ≡ true → (s.at ≡ count_at → s.number.magnitude ≡ s.count) → Forward (step room s (form_at (s.at + 1)))
-      close_forward b f = subst Forward (sym (closed-step b)) (closes_forward f (closed_does room s numbered (value_of s.number)))
+      close_forward : {x : ℤ} → value_of s.number ≡ Some x → (s.at ≡ count_at → x ≡ pos s.count) → Forward (step room s (form_at (s.at + 1)))
+      close_forward {x} e f = subst Forward (sym (closed-step e)) (closes_forward f (closed_does room s numbered x))
+
+      -- the number that was read
+      value : (j : ℕ) → s.number.magnitude ≡ Some j → value_of s.number ≡ Some (signed s.number.negative j)
+      value j e = value_small s.number j e (o.good.spells j e).small
 
       -- one digit more
-      digit_forward : (d : ℕ) (n : Number) → pushed s.number (48 + d) ≡ Pushed.Grown n → (s.at ≡ count_at → leads n s.count ≡ true) → left n < left s.number
+      digit_forward : (d : ℕ) (n : Number) → pushed s.number (48 + d) ≡ Some n → (s.at ≡ count_at → leads n s.count ≡ true) → left n < left s.number
           → Forward (step room s (48 + d))
       unfolding step number_step grown
       digit_forward d n e f l =
@@ -104,16 +112,16 @@ module _ (room : ℕ) where
 
       -- a number ends, or begins with 1
       number_forward : (s.at ≡ count_at → ⊥) → (b : ℕ) × Forward (step room s b)
-      number_forward n = go s.number.begun refl
+      number_forward n = go s.number.magnitude refl
         where
-          go : (t : Bool) → s.number.begun ≡ t → (b : ℕ) × Forward (step room s b)
-          go true e = (form_at (s.at + 1), close_forward e (λ q. absurd (n q)))
-          go false e =
+          go : (t : Option ℕ) → s.number.magnitude ≡ t → (b : ℕ) × Forward (step room s b)
+          go (Some j) e = (form_at (s.at + 1), close_forward (value j e) (λ q. absurd (n q)))
+          go None e =
               let sign = s.number.negative in
-              let idle : s.number ≡ number false sign 0 = λ i. number (e i) sign (o.good.idle e i) in (
+              let idle : s.number ≡ number sign None = λ i. number sign (e i) in (
                 48 + 1,
-                digit_forward 1 (number true sign 1) (ap (λ (i : Number). pushed i 49) idle ∙ first_digit sign 1 (omega arith) (and_false sign))
-                    (λ q. absurd (n q)) (omega (arith, ap left idle)),
+                digit_forward 1 (number sign (Some 1)) (ap (λ (i : Number). pushed i 49) idle ∙ first_digit sign 1 (omega arith) (and_false sign))
+                    (λ q. absurd (n q)) (omega (arith, ap to_grow e)),
               )
 
       -- the count, digit by digit
@@ -130,27 +138,28 @@ module _ (room : ℕ) where
           go (inl e) =
               let j = next_digit s.count 0 some_nodes few (inl refl) (omega (arith, some_nodes)) in (
                 48 + j.0,
-                digit_forward j.0 (number true false j.0) (ap (λ (i : Number). pushed i (48 + j.0)) e ∙ first_digit false j.0 (omega (arith, j.1)) refl)
-                    (λ _. front_leads s.count (number true false j.0) refl j.2 j.4) (omega (arith, ap left e, j.2)),
+                digit_forward j.0 (number false (Some j.0)) (ap (λ (i : Number). pushed i (48 + j.0)) e ∙ first_digit false j.0 (omega (arith, j.1)) refl)
+                    (λ _. front_leads s.count (number false (Some j.0)) j.0 refl refl j.2 j.4) (omega (arith, ap left e, j.2)),
               )
-          go (inr e) = ended (eqb s.number.magnitude s.count) refl s.number.begun refl
+          go (inr e) = ended (eqb f.1 s.count) refl
             where
-              f : (s.number.negative ≡ false) × (0 < s.number.magnitude) × Front s.count s.number.magnitude
+              f : (s.number.negative ≡ false) × (i : ℕ) × (s.number.magnitude ≡ Some i) × (0 < i) × Front s.count i
               f = leads_front s.count s.number e
 
-              ended : (t : Bool) → eqb s.number.magnitude s.count ≡ t → (u : Bool) → s.number.begun ≡ u → (b : ℕ) × Forward (step room s b)
-              ended t q false b = absurd (omega (arith, f.1, o.good.idle b))
-              ended true q true b = (form_at (s.at + 1), close_forward b (λ _. eqb-true s.number.magnitude s.count q))
-              ended false q true b =
-                  let j = next_digit s.count s.number.magnitude some_nodes few (inr f.2) (eqb-false s.number.magnitude s.count q) in
-                  let r : s.number.magnitude * 10 + j.0 % 10 ≡ j.0 = omega (arith, j.1) in
-                  let begun : s.number ≡ number true false s.number.magnitude = λ i. number (b i) (f.0 i) s.number.magnitude in (
+              ended : (t : Bool) → eqb f.1 s.count ≡ t → (b : ℕ) × Forward (step room s b)
+              ended true q =
+                  let v : signed s.number.negative f.1 ≡ pos s.count = ap (λ (b : Bool). signed b f.1) f.0 ∙ ap pos (eqb-true f.1 s.count q) in
+                  (form_at (s.at + 1), close_forward (value f.1 f.2) (λ _. v))
+              ended false q =
+                  let j = next_digit s.count f.1 some_nodes few (inr f.4) (eqb-false f.1 s.count q) in
+                  let r : f.1 * 10 + j.0 % 10 ≡ j.0 = omega (arith, j.1) in
+                  let is : s.number ≡ number false (Some f.1) = λ i. number (f.0 i) (f.2 i) in (
                     48 + j.0 % 10,
-                    digit_forward (j.0 % 10) (number true false j.0)
-                        (ap (λ (i : Number). pushed i (48 + j.0 % 10)) begun
-                        ∙ more_digit false s.number.magnitude (j.0 % 10) (omega arith) f.1 (omega (arith, f.1, few))
-                        ∙ rw r)
-                        (λ _. front_leads s.count (number true false j.0) refl j.2 j.4) (omega (arith, ap left begun, few, f.1)),
+                    digit_forward (j.0 % 10) (number false (Some j.0))
+                        (ap (λ (i : Number). pushed i (48 + j.0 % 10)) is
+                        ∙ more_digit false f.1 (j.0 % 10) (omega arith) f.3 (omega (arith, few, j.1, j.3))
+                        ∙ ap (λ (i : ℕ). Some (number false (Some i))) r)
+                        (λ _. front_leads s.count (number false (Some j.0)) j.0 refl refl j.2 j.4) (omega (arith, ap left is, few, j.1, j.2, j.3)),
                   )
 
     forward : s.at < whole_at → (b : ℕ) × Forward (step room s b)
@@ -168,10 +177,9 @@ module _ (room : ℕ) where
   goes (suc fuel) s ns o l = ends (λ t ms p. goes fuel t ms p) (eqb s.at whole_at) refl
     where
       on : ((t : Scan) (ms : Nodes) → Reached room t → size t < fuel → (x : List ℕ) × OfForm (read_from room t ms x))
-          → (y : Step) → Kept room y → Forward s o y → (x : List ℕ) × OfForm (onward room s.node ns y x)
-      on rest (Step.On t) p q = rest t ns p (omega arith)
-      on rest (Step.Node t a c) p q = rest t _ p (omega arith)
-      on rest (Step.Refused w) p q = ([], refused_of_form (number_of w) _ q)
+          → (y : Outcome Step) → Kept room y → Forward s o y → (x : List ℕ) × OfForm (onward room s.node ns y x)
+      on rest (answered t) p q = rest t.scan _ p (omega arith)
+      on rest (refused n k) p q = ([], refused_of_form n k q)
 
       ends : ((t : Scan) (ms : Nodes) → Reached room t → size t < fuel → (x : List ℕ) × OfForm (read_from room t ms x))
           → (t : Bool) → eqb s.at whole_at ≡ t → (x : List ℕ) × OfForm (read_from room s ns x)
@@ -183,9 +191,9 @@ module _ (room : ℕ) where
 
   module _ (ns : Nodes) where
     -- as long as nothing was refused, some text that goes on so is of the form
-    pub goes_on : 2048 ≤ node_room ns → (w : List ℕ) (s : Scan) → (fed room (Taken.On start) ns w).out ≡ Taken.On s
-        → (x : List ℕ) × OfForm (finished (fed room (Taken.On start) ns (w ++ x)))
+    pub goes_on : 2048 ≤ node_room ns → (w : List ℕ) (s : Scan) → (fed room (answered start) ns w).out ≡ answered s
+        → (x : List ℕ) × OfForm (finished (fed room (answered start) ns (w ++ x)))
     goes_on l w s e =
-        let f = fed room (Taken.On start) ns w in
+        let f = fed room (answered start) ns w in
         let g = goes (suc (size s)) s f.nodes (reached room ns l w s e) (omega arith) in
-        (g.0, rw (fed_pieces room (Taken.On start) ns w g.0, e) g.1)
+        (g.0, rw (fed_pieces room (answered start) ns w g.0, e) g.1)

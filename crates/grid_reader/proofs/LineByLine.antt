@@ -5,14 +5,14 @@ use mathlib.Core.Bool.{Bool, true, false, not, ◌&&◌, ◌||◌, cond}
 use mathlib.Core.List.{List, [], ◌∷◌}
 use native.Mathlib.Omega.{arith}
 use native.Mathlib.Numerals.{add-one}
-use borrow.Author.Tests.{eqb-true, lt-ltb, le-ltb}
-use lib.Dec.{ltb, eqb}
+use borrow.Author.Tests.{lt-ltb, le-ltb}
+use lib.Dec.{ltb}
 use lib.ListN.{length}
+use Rattle.std.specs.Prelude.{Option, Some, None}
 use lib.IntN.{ℤ, pos}
 use Rattle.laws.specs.Bytes.{bytes}
 use Rattle.laws.specs.Logic.{both, eq_z}
 use Rattle.figures.specs.Outcome.{Outcome, answered, refused, and_then, refuse_if}
-use Rattle.figures.specs.declared.Refusal.{Refusal}
 use Rattle.laws.specs.Over.{over}
 use Rattle.decimal.specs.Pushing.{none}
 use Rattle.decimal.specs.declared.Number.{Number}
@@ -24,9 +24,8 @@ use Rattle.grid.specs.Check.{layout, smoothness}
 use Rattle.grid.specs.declared.Header.{Header}
 use Rattle.grid.proofs.NodeLists.{first-over, set-over}
 use Rattle.grid_reader.specs.Reading.{fixed, word, field, comma, nothing, ending, nodes, reading}
-use Rattle.grid_reader.specs.Scan.{form, to_line_at, south_line_at, west_line_at, dlat_line_at, dlon_line_at, rows_line_at, cols_line_at, cols_at, node_line_at, lon_at, end_line_at, count_at, whole_at, line_end, lines_before, line_at, scan, start, filled, header_end, node_end, closed, literal_step, step, fed, finished}
-use Rattle.grid_reader.specs.declared.Step.{Step}
-use Rattle.grid_reader.specs.declared.Taken.{Taken}
+use Rattle.grid_reader.specs.Scan.{form, to_line_at, south_line_at, west_line_at, dlat_line_at, dlon_line_at, rows_line_at, cols_line_at, cols_at, node_line_at, lon_at, end_line_at, count_at, whole_at, line_end, lines_before, line_at, scan, start, on, node_read, filled, header_end, node_end, closed, literal_step, step, fed, finished}
+use Rattle.grid_reader.specs.declared.scanner.Step.{Step}
 use Rattle.grid_reader.proofs.Onward.{read_from, onward, one_byte}
 use Rattle.grid_reader.proofs.Pieces.{is_piece, is_mark, marked, literals, numbers}
 use Rattle.grid_reader.proofs.Count.{counts}
@@ -43,7 +42,7 @@ module _ (room : ℕ) (h : Header) (c k : ℕ) (x : ℤ) (ns : Nodes) where
   at a t = read_from room (scan a none h c k x) ns t
 
   -- where `next` is what the number's end leads to
-  fields : (a stop : ℕ) (key : List ℕ) (next : ℤ → Step) → is_field a stop key ≡ true
+  fields : (a stop : ℕ) (key : List ℕ) (next : ℤ → Outcome Step) → is_field a stop key ≡ true
       → ((n : Number) (v : ℤ) → closed room (scan (a + length key) n h c k x) v ≡ next v) → (a + length key ≡ count_at → ⊥)
       → (t : List ℕ) → at a t ≡ field (line_at a k) stop key t (λ v u. onward room k ns (next v) u)
   fields a stop key next e f g t =
@@ -54,7 +53,7 @@ module _ (room : ℕ) (h : Header) (c k : ℕ) (x : ℤ) (ns : Nodes) where
 
 -- ---- the end line, and what follows it
 
-module _ (room : ℕ) (h : Header) (unbroken : broken_rule h ≡ 0) (store : Nodes) where
+module _ (room : ℕ) (h : Header) (unbroken : broken_rule h ≡ None) (store : Nodes) where
   few : node_count h ≤ 2048
   few = (node_count_lem h unbroken).1
 
@@ -83,12 +82,12 @@ module _ (room : ℕ) (h : Header) (unbroken : broken_rule h ≡ 0) (store : Nod
   node_line_lem : (left k : ℕ) (x : ℤ) (ns : Nodes)
       → ((v y : ℤ) (t : List ℕ) → (beyond_range v || beyond_range y) ≡ false
       → onward room k (over_nodes ns store)
-      (cond (ltb (k + 1) (node_count h)) (Step.Node (scan node_line_at none h (node_count h) (k + 1) v) v y) (Step.Node (scan end_line_at none h (node_count h) k v) v y)) t
+      (node_read (cond (ltb (k + 1) (node_count h)) (scan node_line_at none h (node_count h) (k + 1) v) (scan end_line_at none h (node_count h) k v)) v y) t
       ≡ nodes h left (suc k) (add_node ns v y) t)
       → (t : List ℕ) → read_from room (scan node_line_at none h (node_count h) k x) (over_nodes ns store) t ≡ nodes h (suc left) k ns t
   unfolding nodes closed node_end form lines_before line_end
   node_line_lem left k x ns rest t =
-      fields room h (node_count h) k x (over_nodes ns store) node_line_at comma (bytes "node=") (λ v. Step.On (scan lon_at none h (node_count h) k v)) refl
+      fields room h (node_count h) k x (over_nodes ns store) node_line_at comma (bytes "node=") (λ v. on (scan lon_at none h (node_count h) k v)) refl
       (λ m v. refl) (omega arith) t
       ∙ ap (field (line_at node_line_at k) comma (bytes "node=") t) (λ i v u.
       (numbers room h (node_count h) k v (over_nodes ns store) (marked lon_at newline (lines_before lon_at) refl)
@@ -97,8 +96,8 @@ module _ (room : ℕ) (h : Header) (unbroken : broken_rule h ≡ 0) (store : Nod
     where
       judged : (v y : ℤ) (t : List ℕ) (d : Bool) → (beyond_range v || beyond_range y) ≡ d
           → onward room k (over_nodes ns store)
-          (cond d (Step.Refused (Refusal.Range k))
-          (cond (ltb (k + 1) (node_count h)) (Step.Node (scan node_line_at none h (node_count h) (k + 1) v) v y) (Step.Node (scan end_line_at none h (node_count h) k v) v y))) t
+          (refuse_if d 3 k
+          (node_read (cond (ltb (k + 1) (node_count h)) (scan node_line_at none h (node_count h) (k + 1) v) (scan end_line_at none h (node_count h) k v)) v y)) t
           ≡ refuse_if d 3 k (nodes h left (suc k) (add_node ns v y) t)
       judged v y t true f = refl
       judged v y t false f = rest v y t f
@@ -129,7 +128,7 @@ module _ (slices store : Nodes) (enough : 2048 ≤ node_room store) where
   from a h t = read_from room (scan a none h 0 0 (pos 0)) store t
 
   -- the header's numbers are bounded, and its first node line follows
-  first-node : (h : Header) → broken_rule h ≡ 0 → (t : List ℕ) → read_from room (scan node_line_at none h (node_count h) 0 (pos 0)) store t ≡ nodes h (node_count h) 0 no_nodes t
+  first-node : (h : Header) → broken_rule h ≡ None → (t : List ℕ) → read_from room (scan node_line_at none h (node_count h) 0 (pos 0)) store t ≡ nodes h (node_count h) 0 no_nodes t
   unfolding over
   first-node h e t = go (node_count h) refl
     where
@@ -142,18 +141,17 @@ module _ (slices store : Nodes) (enough : 2048 ≤ node_room store) where
   -- the eight lines are whole
   judged : (h : Header) (t : List ℕ) → onward room 0 store (header_end room (scan cols_at none h 0 0 (pos 0))) t ≡ and_then (layout (grid_with h slices)) (nodes h (node_count h) 0 no_nodes t)
   unfolding header_end layout
-  judged h t = rules (eqb (broken_rule h) 0) refl
+  judged h t = rules (broken_rule h) refl
     where
-      roomy : broken_rule h ≡ 0 → (d : Bool)
-          → onward room 0 store (cond d (Step.Refused (Refusal.NodeRoom (node_count h))) (Step.On (scan node_line_at none h (node_count h) 0 (pos 0)))) t
+      roomy : broken_rule h ≡ None → (d : Bool)
+          → onward room 0 store (refuse_if d 5 (node_count h) (on (scan node_line_at none h (node_count h) 0 (pos 0)))) t
           ≡ and_then (refuse_if {A = Unit {0}} d 5 (node_count h) (answered tt)) (nodes h (node_count h) 0 no_nodes t)
       roomy e true = refl
       roomy e false = first-node h e t
 
-      rules : (d : Bool) → eqb (broken_rule h) 0 ≡ d → onward room 0 store (header_end room (scan cols_at none h 0 0 (pos 0))) t ≡ and_then (layout (grid_with h slices)) (nodes h (node_count h) 0 no_nodes t)
-      rules false e = rw e
-      rules true e =
-          rw e (roomy (eqb-true (broken_rule h) 0 e) (ltb room (node_count h)))
+      rules : (o : Option ℕ) → broken_rule h ≡ o → onward room 0 store (header_end room (scan cols_at none h 0 0 (pos 0))) t ≡ and_then (layout (grid_with h slices)) (nodes h (node_count h) 0 no_nodes t)
+      rules (Some rule) e = rw e
+      rules None e = rw e (roomy e (ltb room (node_count h)))
 
   -- a line of the form, and what follows it
   fixed-line : (a : ℕ) (piece : List ℕ) (h : Header) {next : List ℕ → Outcome Grid} → is_piece a (lines_before a) piece ≡ true
@@ -165,7 +163,7 @@ module _ (slices store : Nodes) (enough : 2048 ≤ node_room store) where
       → (t : List ℕ) → from a h t ≡ field (line_at a 0) newline key t next
   unfolding closed
   number-line a key h e i rest t =
-      fields room h 0 0 (pos 0) store a newline key (λ v. Step.On (scan (a + length key + 2) none (filled (a + length key) v h) 0 0 (pos 0))) e
+      fields room h 0 0 (pos 0) store a newline key (λ v. on (scan (a + length key + 2) none (filled (a + length key) v h) 0 0 (pos 0))) e
       (λ n v. rw (lt-ltb (a + length key) cols_at i)) (omega arith) t
       ∙ ap (field (line_at a 0) newline key t) (λ j v u. rest v u j)
 
@@ -192,5 +190,5 @@ module _ (slices store : Nodes) (enough : 2048 ≤ node_room store) where
 
 -- store holds what it holds before the nodes are put into it
 pub line_by_line : (text : List ℕ) (slices store : Nodes) → 2048 ≤ node_room store
-    → finished (fed (node_room slices) (Taken.On start) store text) ≡ reading text slices
+    → finished (fed (node_room slices) (answered start) store text) ≡ reading text slices
 line_by_line text slices store l = from_start slices store l text

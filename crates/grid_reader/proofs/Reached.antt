@@ -5,12 +5,13 @@ use mathlib.Core.Bool.{true}
 use mathlib.Core.Logic.{◌⊎◌, inl, inr}
 use native.Mathlib.Omega.{arith}
 use lib.IntN.{ℤ}
+use Rattle.figures.specs.Outcome.{Outcome}
 use Rattle.decimal.specs.Pushing.{none}
 use Rattle.decimal.proofs.Grown.{Good, good_none, push-grown}
 use Rattle.grid.specs.declared.Header.{Header}
 use Rattle.grid_reader.specs.Scan.{number_sign, form, cols_at, node_line_at, lon_at, end_line_at, count_at, whole_at, form_at, scan, start, leads, step}
-use Rattle.grid_reader.specs.declared.Scan.{Scan}
-use Rattle.grid_reader.specs.declared.Step.{Step}
+use Rattle.grid_reader.specs.declared.scanner.Scan.{Scan}
+use Rattle.grid_reader.specs.declared.scanner.Step.{Step}
 use Rattle.grid_reader.proofs.NodesSoFar.{node_count_lem}
 use Rattle.grid_reader.proofs.Steps.{After, Closes, in_header, header-whole, lat_whole, next_node_lem, last_node_lem, text-whole, another_count, judged, Does, literal, digit, closes, off_form, closed_does, step_does}
 
@@ -61,11 +62,11 @@ module _ (room : ℕ) where
     led = λ _. inl refl;
   }
 
-  abbrev pub Kept : Step → Type 0
-  Kept = After (Reached room) (λ _. Unit {0})
+  abbrev pub Kept : Outcome Step → Type 0
+  Kept = After (Reached room) (λ _ _. Unit {0})
 
   module _ (s : Scan) (o : Reached room s) where
-    closed_kept : {x : ℤ} {z : Step} → Closes room s x z → Kept z
+    closed_kept : {x : ℤ} {z : Outcome Step} → Closes room s x z → Kept z
     closed_kept (in_header l) = ahead (omega arith) (omega arith, omega arith) (o.early (omega arith))
     closed_kept (header-whole e h r f) =
         let n = node_count_lem h r in
@@ -80,9 +81,9 @@ module _ (room : ℕ) where
     closed_kept (text-whole e q) =
         behind (omega arith) (omega arith) (omega arith, omega arith) (o.counted (omega arith)) (o.held (omega arith)) (λ _. o.last (omega arith))
     closed_kept (another_count e q) = tt
-    closed_kept (judged w n) = tt
+    closed_kept (judged n k e) = tt
 
-    step_kept : {b : ℕ} {z : Step} → Does room s b z → Kept z
+    step_kept : {b : ℕ} {z : Outcome Step} → Does room s b z → Kept z
     unfolding form
     step_kept (literal l n e) =
         let p : s.at ≡ cols_at → ⊥ = λ q. n (ap form_at q) in
@@ -109,7 +110,7 @@ module _ (room : ℕ) where
       last = o.last;
       led = λ q. inr (f q);
     }
-    step_kept (closes m e g) = closed_kept (closed_does room s m _)
+    step_kept (closes m e x g) = closed_kept (closed_does room s m x)
     step_kept off_form = tt
 
     pub reached_step : (b : ℕ) → Kept (step room s b)

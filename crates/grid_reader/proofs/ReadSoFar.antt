@@ -8,17 +8,18 @@ use native.Mathlib.Omega.{arith}
 use borrow.Author.Tests.{ne_eqb, ltb-true, ltb-false, lt-ltb, le-ltb}
 use lib.Dec.{ltb, eqb}
 use lib.IntN.{ℤ, pos}
+use Rattle.std.specs.Prelude.{Some, None}
+use Rattle.figures.specs.Outcome.{Outcome, answered, refused}
 use Rattle.decimal.specs.Pushing.{minus_pushed, pushed, part}
 use Rattle.decimal.specs.declared.Number.{Number}
-use Rattle.decimal.specs.declared.Pushed.{Pushed}
 use Rattle.decimal.proofs.Grown.{push-grown}
 use Rattle.lines.specs.Text.{newline}
-use Rattle.grid.specs.Grid.{Nodes, set_node, node_room}
+use Rattle.grid.specs.Grid.{Nodes, node_room}
 use Rattle.grid_text.specs.Text.{header_text, node_lines}
-use Rattle.grid_reader.specs.Scan.{number_sign, node_line_at, end_line_at, form_at, line_end, lines_before, line_at, at_place, with_number}
+use Rattle.grid_reader.specs.Scan.{number_sign, node_line_at, end_line_at, form_at, line_end, lines_before, line_at, at_place, with_number, stored}
 use Rattle.grid_reader.specs.SoFar.{number_at, filled_form, lines_so_far, so_far, newlines}
-use Rattle.grid_reader.specs.declared.Scan.{Scan}
-use Rattle.grid_reader.specs.declared.Step.{Step}
+use Rattle.grid_reader.specs.declared.scanner.Scan.{Scan}
+use Rattle.grid_reader.specs.declared.scanner.Step.{Step}
 use Rattle.grid_reader.proofs.FormLaws.{form_more}
 use Rattle.grid_reader.proofs.Reached.{Reached}
 
@@ -36,10 +37,9 @@ pub record Read (s : Scan) (ns : Nodes) (w : List ℕ) : Type 0 where
   pub lines : line_at s.at s.node ≡ suc (newlines w)
 
 -- what a step in the line of `node` leaves, if it is not a refusal, when the text is w
-abbrev pub Kept : (node : ℕ) → Nodes → (w : List ℕ) → Step → Type 0
-Kept k ns w (Step.On t) = Read t ns w
-Kept k ns w (Step.Node t a b) = Read t (set_node ns k a b) w
-Kept k ns w (Step.Refused r) = Unit {0}
+abbrev pub Kept : (node : ℕ) → Nodes → (w : List ℕ) → Outcome Step → Type 0
+Kept k ns w (answered p) = Read p.scan (stored ns k p.node) w
+Kept k ns w (refused m j) = Unit {0}
 
 module _ {room : ℕ} (s : Scan) (o : Reached room s) (ns : Nodes) where
   -- ---- a fixed byte
@@ -84,15 +84,12 @@ module _ {room : ℕ} (s : Scan) (o : Reached room s) (ns : Nodes) where
 
     -- ---- a byte of a number
 
-    module _ (b : ℕ) (m : Number) (q : pushed s.number b ≡ Pushed.Grown m) where
+    module _ (b : ℕ) (m : Number) (q : pushed s.number b ≡ Some m) where
       -- it is no newline
       pushed_inline : eqb b newline ≡ false
       unfolding pushed minus_pushed
       pushed_inline =
-          ne_eqb b newline (λ f.
-          let e : Pushed.Refused ≡ Pushed.Grown m = subst (λ (c : ℕ). pushed s.number c ≡ Pushed.Grown m) f q in
-          let z : ◌≡◌ {A = ℕ} 0 1 = cc in
-          omega arith)
+          ne_eqb b newline (λ f. let e : None ≡ Some m = subst (λ (c : ℕ). pushed s.number c ≡ Some m) f q in absurd cc)
 
       pub digit_read : Read (with_number s m) ns (w ++ (b ∷ []))
       unfolding so_far lines_so_far

@@ -9,16 +9,14 @@ use native.Mathlib.Omega.{arith}
 use lib.Dec.{eqb}
 use lib.ListN.{replicate, length-replicate}
 use lib.IntN.{ℤ, pos}
-use Rattle.figures.specs.Outcome.{Outcome, refused}
-use Rattle.figures.specs.Refusal.{number_of, place_of}
-use Rattle.figures.specs.declared.Refusal.{Refusal}
-use Rattle.grid.specs.Grid.{Nodes, node_lists, node_room, Grid}
+use Rattle.figures.specs.Outcome.{Outcome, answered, refused}
+use Rattle.figures.proofs.Laws.{answer_not_refusal}
+use Rattle.grid.specs.Grid.{Nodes, node_lists, node_room}
 use Rattle.grid_reader.specs.Reading.{reading}
 use Rattle.grid_reader.specs.Scan.{whole_at, line_at, start, step, Scanned, taken, fed, ended}
 use Rattle.grid_reader.specs.SoFar.{newlines}
-use Rattle.grid_reader.specs.declared.Scan.{Scan}
-use Rattle.grid_reader.specs.declared.Step.{Step}
-use Rattle.grid_reader.specs.declared.Taken.{Taken}
+use Rattle.grid_reader.specs.declared.scanner.Scan.{Scan}
+use Rattle.grid_reader.specs.declared.scanner.Step.{Step}
 use Rattle.grid_reader.proofs.Feeding.{fed_refused}
 use Rattle.grid_reader.proofs.Cuts.{fed_pieces}
 use Rattle.grid_reader.proofs.LineByLine.{line_by_line}
@@ -45,10 +43,10 @@ pub record Stops (text : List ℕ) (line : ℕ) (slices : Nodes) : Type 0 where
 -- ---- a byte: a refusal by 1 is in the line of the state
 
 module _ (room : ℕ) (s : Scan) where
-  abbrev Own : Step → Type 0
-  Own = After (λ _. Unit {0}) (λ r. number_of r ≡ 1 → r ≡ Refusal.Form (line_at s.at s.node))
+  abbrev Own : Outcome Step → Type 0
+  Own = After (λ _. Unit {0}) (λ n k. n ≡ 1 → k ≡ line_at s.at s.node)
 
-  closed_own : {x : ℤ} {z : Step} → Closes room s x z → Own z
+  closed_own : {x : ℤ} {z : Outcome Step} → Closes room s x z → Own z
   closed_own (in_header l) = tt
   closed_own (header-whole e h r f) = tt
   closed_own (lat_whole e) = tt
@@ -56,36 +54,42 @@ module _ (room : ℕ) (s : Scan) where
   closed_own (last_node_lem e l) = tt
   closed_own (text-whole e q) = tt
   closed_own (another_count e q) = λ _. refl
-  closed_own (judged w n) = λ q. absurd (n q)
+  closed_own (judged n k e) = λ q. absurd (e q)
 
-  step_own : {b : ℕ} {z : Step} → Does room s b z → Own z
+  step_own : {b : ℕ} {z : Outcome Step} → Does room s b z → Own z
   step_own (literal l n e) = tt
   step_own (digit m n e f) = tt
-  step_own (closes m e g) = closed_own (closed_does room s m _)
+  step_own (closes m e x g) = closed_own (closed_does room s m x)
   step_own off_form = λ _. refl
 
 -- ---- a text: where its scanning was refused
 
--- r is the refusal of the byte behind the part that went on
-record FirstRefused (room : ℕ) (s : Scan) (ns : Nodes) (text : List ℕ) (r : Refusal) : Type 0 where
+refused_same : {A : Type 0} {m n j k : ℕ} → ◌≡◌ {A = Outcome A} (refused m j) (refused n k) → (m ≡ n) × (j ≡ k)
+refused_same e = (cc, cc)
+
+same_refusal : {A B : Type 0} {m n j k : ℕ} → ◌≡◌ {A = Outcome A} (refused m j) (refused n k) → ◌≡◌ {A = Outcome B} (refused m j) (refused n k)
+same_refusal e = let p = refused_same e in λ i. refused (p.0 i) (p.1 i)
+
+-- the byte behind the part that went on was refused so
+record FirstRefused (room : ℕ) (s : Scan) (ns : Nodes) (text : List ℕ) (n k : ℕ) : Type 0 where
   pub before : List ℕ
   pub byte : ℕ
   pub rest : List ℕ
   pub state : Scan
   pub same : text ≡ before ++ (byte ∷ []) ++ rest
-  pub goes : (fed room (Taken.On s) ns before).out ≡ Taken.On state
-  pub stops : step room state byte ≡ Step.Refused r
+  pub goes : (fed room (answered s) ns before).out ≡ answered state
+  pub stops : step room state byte ≡ refused n k
 
-module _ (room : ℕ) where
-  first_refused : (text : List ℕ) (s : Scan) (ns : Nodes) (r : Refusal) → (fed room (Taken.On s) ns text).out ≡ Taken.Refused r
-      → FirstRefused room s ns text r
+module _ (room n k : ℕ) where
+  first_refused : (text : List ℕ) (s : Scan) (ns : Nodes) → (fed room (answered s) ns text).out ≡ refused n k
+      → FirstRefused room s ns text n k
   unfolding fed taken
-  first_refused [] s ns r e = let z : ◌≡◌ {A = ℕ} 0 1 = cc in absurd (omega arith)
-  first_refused (b ∷ text) s ns r e = go (λ t ms. first_refused text t ms r) (step room s b) refl e
+  first_refused [] s ns e = absurd (answer_not_refusal e)
+  first_refused (b ∷ text) s ns e = go (λ t ms. first_refused text t ms) (step room s b) refl e
     where
       -- the byte b goes on to t, with the nodes ms
-      later : (t : Scan) (ms : Nodes) → taken s ns (step room s b) ≡ record { out = Taken.On t; nodes = ms } → FirstRefused room t ms text r
-          → FirstRefused room s ns (b ∷ text) r
+      later : (t : Scan) (ms : Nodes) → taken s ns (step room s b) ≡ record { out = answered t; nodes = ms } → FirstRefused room t ms text n k
+          → FirstRefused room s ns (b ∷ text) n k
       later t ms q a = record {
         before = b ∷ a.before;
         byte = a.byte;
@@ -96,36 +100,30 @@ module _ (room : ℕ) where
         stops = a.stops;
       }
 
-      go : ((t : Scan) (ms : Nodes) → (fed room (Taken.On t) ms text).out ≡ Taken.Refused r → FirstRefused room t ms text r)
-          → (z : Step) → step room s b ≡ z → (fed room (taken s ns z).out (taken s ns z).nodes text).out ≡ Taken.Refused r
-          → FirstRefused room s ns (b ∷ text) r
-      go next (Step.On t) q e = later t _ (rw q) (next t _ e)
-      go next (Step.Node t x y) q e = later t _ (rw q) (next t _ e)
-      go next (Step.Refused w) q e =
-          let f : Taken.Refused w ≡ Taken.Refused r = ap (λ (x : Scanned). x.out) (sym (fed_refused room w ns text)) ∙ e in
-          let g : w ≡ r = cc in
-          record { before = []; byte = b; rest = text; state = s; same = refl; goes = refl; stops = q ∙ ap Step.Refused g }
+      go : ((t : Scan) (ms : Nodes) → (fed room (answered t) ms text).out ≡ refused n k → FirstRefused room t ms text n k)
+          → (z : Outcome Step) → step room s b ≡ z → (fed room (taken s ns z).out (taken s ns z).nodes text).out ≡ refused n k
+          → FirstRefused room s ns (b ∷ text) n k
+      go next (answered p) q e = later p.scan _ (rw q) (next p.scan _ e)
+      go next (refused m j) q e =
+          record { before = []; byte = b; rest = text; state = s; same = refl; goes = refl; stops = q ∙ same_refusal (ap (λ (x : Scanned). x.out) (sym (fed_refused room m j ns text)) ∙ e) }
 
   -- feeding that byte too gives the refusal
-  refused_behind : (w : List ℕ) (b : ℕ) (s t : Scan) (ns : Nodes) (r : Refusal) → (fed room (Taken.On s) ns w).out ≡ Taken.On t → step room t b ≡ Step.Refused r
-      → (fed room (Taken.On s) ns (w ++ (b ∷ []))).out ≡ Taken.Refused r
+  refused_behind : (w : List ℕ) (b : ℕ) (s t : Scan) (ns : Nodes) → (fed room (answered s) ns w).out ≡ answered t → step room t b ≡ refused n k
+      → (fed room (answered s) ns (w ++ (b ∷ []))).out ≡ refused n k
   unfolding fed taken
-  refused_behind w b s t ns r e f =
-      let g = fed room (Taken.On s) ns w in
-      ap (λ (x : Scanned). x.out) (fed_pieces room (Taken.On s) ns w (b ∷ []))
-      ∙ ap (λ (o : Taken). (fed room o g.nodes (b ∷ [])).out) e
-      ∙ ap (λ (z : Step). (taken t g.nodes z).out) f
+  refused_behind w b s t ns e f =
+      let g = fed room (answered s) ns w in
+      ap (λ (x : Scanned). x.out) (fed_pieces room (answered s) ns w (b ∷ []))
+      ∙ ap (λ (o : Outcome Scan). (fed room o g.nodes (b ∷ [])).out) e
+      ∙ ap (λ (z : Outcome Step). (taken t g.nodes z).out) f
 
 -- ---- the reading of a text
-
-refused_same : {m n j k : ℕ} → ◌≡◌ {A = Outcome Grid} (refused m j) (refused n k) → (m ≡ n) × (j ≡ k)
-refused_same e = (cc, cc)
 
 module _ (text : List ℕ) (slices ns : Nodes) (l : 2048 ≤ node_room ns) (line : ℕ) where
   abbrev room : ℕ
   room = node_room slices
 
-  stops : (s : Scan) → (fed room (Taken.On start) ns text).out ≡ Taken.On s → (ms : Nodes) → ended (Taken.On s) ms ≡ refused 1 line → Stops text line slices
+  stops : (s : Scan) → (fed room (answered start) ns text).out ≡ answered s → (ms : Nodes) → ended (answered s) ms ≡ refused 1 line → Stops text line slices
   stops s e ms f =
       let g = goes_on room ns l text s e in
       record {
@@ -137,29 +135,27 @@ module _ (text : List ℕ) (slices ns : Nodes) (l : 2048 ≤ node_room ns) (line
       own true q = absurd (whole_of_form s ms q line f)
       own false q = sym (refused_same (rw q at f)).1
 
-  departs-at : (r : Refusal) → number_of r ≡ 1 → place_of r ≡ line → FirstRefused room start ns text r → Departs text line slices
-  departs-at r p q a =
+  departs-at : FirstRefused room start ns text 1 line → Departs text line slices
+  departs-at a =
       let s = a.state in
-      let own : r ≡ Refusal.Form (line_at s.at s.node) = subst (Own room s) a.stops (step_own room s (step_does room s a.byte)) p in
-      let at : line_at s.at s.node ≡ line = sym (ap place_of own) ∙ q in
+      let own : line ≡ line_at s.at s.node = subst (Own room s) a.stops (step_own room s (step_does room s a.byte)) refl in
       record {
         before = a.before;
         byte = a.byte;
         rest = a.rest;
         same = a.same;
-        hopeless = first_hopeless a.before a.byte line s slices ns l a.goes
-            (refused_behind room a.before a.byte start s ns (Refusal.Form line) a.goes (a.stops ∙ ap Step.Refused (own ∙ ap Refusal.Form at)));
-        in_line = sym at ∙ (so_far_lem room ns l a.before s a.goes).1;
+        hopeless = first_hopeless a.before a.byte line s slices ns l a.goes (refused_behind room 1 line a.before a.byte start s ns a.goes a.stops);
+        in_line = own ∙ (so_far_lem room ns l a.before s a.goes).1;
       }
 
-  by_end : (o : Taken) → (fed room (Taken.On start) ns text).out ≡ o → (ms : Nodes) → ended o ms ≡ refused 1 line
+  by_end : (o : Outcome Scan) → (fed room (answered start) ns text).out ≡ o → (ms : Nodes) → ended o ms ≡ refused 1 line
       → Departs text line slices ⊎ Stops text line slices
-  by_end (Taken.On s) e ms f = inr (stops s e ms f)
-  by_end (Taken.Refused r) e ms f = let g = refused_same f in inl (departs-at r g.0 g.1 (first_refused room text start ns r e))
+  by_end (answered s) e ms f = inr (stops s e ms f)
+  by_end (refused n k) e ms f = inl (departs-at (first_refused room 1 line text start ns (e ∙ same_refusal f)))
 
   scanned_refused : reading text slices ≡ refused 1 line → Departs text line slices ⊎ Stops text line slices
   scanned_refused e =
-      let f = fed room (Taken.On start) ns text in
+      let f = fed room (answered start) ns text in
       by_end f.out refl f.nodes (line_by_line text slices ns l ∙ e)
 
 -- room for the scanner's nodes

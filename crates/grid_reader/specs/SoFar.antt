@@ -7,7 +7,7 @@ use Rattle.grid.specs.declared.Header.{Header}
 use Rattle.grid_text.specs.Text.{header_text, node_lines}
 use Rattle.lines.specs.Text.{newline}
 use Rattle.grid_reader.specs.Scan.{number_sign, south_at, west_at, dlat_at, dlon_at, rows_at, node_line_at, end_line_at, form_at}
-use Rattle.grid_reader.specs.declared.Scan.{Scan}
+use Rattle.grid_reader.specs.declared.scanner.Scan.{Scan}
 
 -- the number of the header at a place of the form
 abbrev pub number_at : Header → (place : ℕ) → ℤ
