@@ -2,14 +2,12 @@
 // a dot for each reading that is accepted and an exclamation mark for each that is refused.
 #![tactic(auto)]
 
-use grid_reader::GridRead;
 use input::read_full;
 use std::io;
 
 fn main(rt: HostRuntime) -> io::Result<()> {
-    let mut buffer = [0u8; 48_000];
-    let mut input = rt.stdin();
-    let n = read_full(&mut input, &mut buffer)?;
+    let mut buffer = [0; 48_000];
+    let n = read_full(&mut rt.stdin(), &mut buffer)?;
     repeat(&rt, &buffer[..n])
 }
 
@@ -21,10 +19,10 @@ fn repeat<R: Print>(rt: &R, text: &[u8]) -> io::Result<()> {
 }
 
 fn once<R: Print>(rt: &R, text: &[u8]) -> io::Result<()> {
-    let mut lat = [0i64; 2048];
-    let mut lon = [0i64; 2048];
+    let mut lat = [0; 2048];
+    let mut lon = [0; 2048];
     match grid_reader::read(text, &mut lat, &mut lon) {
-        GridRead::Grid(_) => rt.write_all(b"."),
-        GridRead::Refused(_) => rt.write_all(b"!"),
+        Ok(_) => rt.write_all(b"."),
+        Err(_) => rt.write_all(b"!"),
     }
 }
