@@ -26,10 +26,6 @@ rest_back k m y = rw (drop_of_length-le (drop k m) (le_of_eq (length-drop k m)),
 length-lent : (k : ℕ) (m : List ℕ) → length (mid_of k (length m - k) m) ≡ length m - k
 length-lent k m = ap length (rest-lent k m) ∙ length-drop k m
 
--- a part of a slice is a slice
-pub lent_short : (k : ℕ) (m : List ℕ) → length m < 2 ^ 63 → length (mid_of k (length m - k) m) < 2 ^ 63
-lent_short k m h = omega (arith, length-lent k m)
-
 -- ---- a text of parts
 
 pub put_nothing : (l : List ℕ) → Put [] l l 0
