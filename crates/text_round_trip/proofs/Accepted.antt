@@ -7,6 +7,7 @@ use native.Mathlib.Omega.{arith}
 use native.Mathlib.Numerals.{add-one}
 use borrow.Author.Tests.{not-false}
 use lib.IntN.{ℤ, pos}
+use Rattle.std.specs.Prelude.{None}
 use Rattle.laws.specs.Bytes.{bytes}
 use Rattle.laws.specs.Logic.{eq_z, eq_z_holds}
 use Rattle.figures.specs.Outcome.{Outcome, answered, and_then, refuse_if}
@@ -71,7 +72,7 @@ module _ (h : Header) where
       (g.header ≡ h) × (node_lines ns k ++ t ≡ node_lines g.nodes (node_count h) ++ line (bytes "end=") (pos (node_count h) ∷ []))
       × Passes g × Counted (node_count h) g.nodes
 
-  module _ (unbroken : broken_rule h ≡ 0) where
+  module _ (unbroken : broken_rule h ≡ None) where
     end_there : (ns : Nodes) (t : List ℕ) (g : Grid) → NodesSoFar (node_count h) ns → ending h ns t ≡ answered g → Rest (node_count h) ns t g
     unfolding ending
     end_there ns t g s e =

@@ -3,11 +3,11 @@ use Prim.Native.Nat.{ℕ, suc, ◌+◌, ◌/◌, ◌%◌, ◌<◌}
 use mathlib.Core.Path.{◌≡◌, refl, sym, ap, ◌∙◌}
 use mathlib.Core.Bool.{Bool, true, false, cond}
 use mathlib.Core.List.{List, [], ◌∷◌, ◌++◌, append_assoc, append-nil}
-use mathlib.Core.Option.{Option, none, some}
 use native.Mathlib.Omega.{arith}
 use borrow.Author.Tests.{eqb-true, eq-eqb, ne_eqb}
 use lib.Dec.{eqb}
 use lib.IntN.{ℤ, pos, negsuc}
+use Rattle.std.specs.Prelude.{Option, Some, None}
 use Rattle.figures.specs.Outcome.{Outcome, answered, refused}
 use Rattle.figures.proofs.Laws.{answer_not_refusal}
 use Rattle.decimal.specs.Spelling.{digits, spell, Short, number_in}
@@ -40,8 +40,8 @@ module _ {A : Type 0} {g : A} where
     where
       ends : (o : Option ℤ) → number_in w ≡ o → whole line o (λ x. next x t) ≡ answered g → b ≡ stop
           → (x : ℤ) × (u : List ℕ) × (w ++ (b ∷ t) ≡ spell x ++ (stop ∷ u)) × Short x × (next x u ≡ answered g)
-      ends none q e f = absurd (refusal_answered e)
-      ends (some x) q e f = let s = spell_grammar w q in (x, t, (λ i. s.0 i ++ (f i ∷ t)), s.1, e)
+      ends None q e f = absurd (refusal_answered e)
+      ends (Some x) q e f = let s = spell_grammar w q in (x, t, (λ i. s.0 i ++ (f i ∷ t)), s.1, e)
 
       go : (word line stop (w ++ (b ∷ [])) t next ≡ answered g
           → (x : ℤ) × (u : List ℕ) × ((w ++ (b ∷ [])) ++ t ≡ spell x ++ (stop ∷ u)) × Short x × (next x u ≡ answered g))

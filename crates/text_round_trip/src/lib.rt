@@ -2,42 +2,37 @@
 #![tactic(auto)]
 
 ghost use Rattle.std.specs.Prelude.{◌≡◌};
-ghost use Rattle.writing.specs.Writing.{room_after, written_outcome};
-ghost use Rattle.grid.specs.Grid.{node_lists, grid_of};
-ghost use Rattle.grid_reader.specs.Reading.{read_outcome};
+ghost use Rattle.figures.specs.Outcome.{outcome};
+ghost use Rattle.writing.specs.Writing.{room_after};
+ghost use Rattle.grid.specs.Grid.{node_lists};
+ghost use Rattle.grid.specs.Lent.{lent};
 ghost use Rattle.text_round_trip.specs.Again.{text_again, grid_again, nodes_again};
 
-use grid::Header;
-use grid_reader::GridRead;
-use writing::Written;
+use figures::Refusal;
+use grid::{Grid, Header};
 
 // Reads a text and writes its grid again: the same text.
-pub fn read_and_write(text: &[u8], room: &mut [u8]) -> Written
-    ensures answer { written_outcome result ≡ text_again text.now room.old }
-    ensures room { room.new ≡ room_after (written_outcome result) text.now room.old }
+pub fn read_and_write(text: &[u8], room: &mut [u8]) -> Result<usize, Refusal>
+    ensures answer { outcome result ≡ text_again text.now room.old }
+    ensures room { room.new ≡ room_after (outcome result) text.now room.old }
 {
     let mut lat = [0i64; 2048];
     let mut lon = [0i64; 2048];
-    match grid_reader::read(text, &mut lat, &mut lon) {
-        GridRead::Refused(why) => Written::Refused(why),
-        GridRead::Grid(header) => grid_text::write(header, &lat, &lon, room),
-    }
+    let header = grid_reader::read(text, &mut lat, &mut lon)?;
+    let grid = Grid {
+        header,
+        lat: &lat,
+        lon: &lon,
+    };
+    grid_text::write(grid, room)
 }
 
 // Writes a grid and reads its text again: the same grid.
-pub fn write_and_read<'a>(
-    h: Header,
-    lat: &'a [i64],
-    lon: &'a [i64],
-    lats: &mut [i64],
-    lons: &mut [i64],
-) -> GridRead
-    ensures answer { read_outcome result ≡ grid_again (grid_of h lat.now lon.now) (node_lists lats.old lons.old) }
-    ensures nodes { node_lists lats.new lons.new ≡ nodes_again (read_outcome result) (node_lists lat.now lon.now) (node_lists lats.old lons.old) }
+pub fn write_and_read(grid: Grid, lat: &mut [i64], lon: &mut [i64]) -> Result<Header, Refusal>
+    ensures answer { outcome result ≡ grid_again (lent grid.entry) (node_lists lat.old lon.old) }
+    ensures nodes { node_lists lat.new lon.new ≡ nodes_again (outcome result) (lent grid.entry).nodes (node_lists lat.old lon.old) }
 {
     let mut text = [0u8; 48_000];
-    match grid_text::write(h, lat, lon, &mut text) {
-        Written::Refused(why) => GridRead::Refused(why),
-        Written::Bytes(n) => grid_reader::read(&text[..n], lats, lons),
-    }
+    let n = grid_text::write(grid, &mut text)?;
+    grid_reader::read(&text[..n], lat, lon)
 }
