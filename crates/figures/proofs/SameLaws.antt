@@ -16,8 +16,8 @@ pair_same : (a b : ℤ) → same_pair a b a b ≡ true
 unfolding same_pair
 pair_same a b = rw (eq_z_true {a = a} refl, eq_z_true {a = b} refl)
 
--- what `==` answers
-one_axis : (a b : ℤ) → int_eq a b ≡ eq_z a b
+-- what `==` answers, of two figures and of two points
+pub one_axis : (a b : ℤ) → int_eq a b ≡ eq_z a b
 one_axis a b = same_from_decides (int_eq a b) (eq_z a b) (Decides-int_eq a b) (eq_z_holds, eq_z_true)
 
 pair_eq : (a b c d : ℤ) → (int_eq a c && int_eq b d) ≡ same_pair a b c d

@@ -7,11 +7,13 @@ use borrow.Author.Tests.{ltb-true, ltb-false}
 use lib.Dec.{ltb}
 use lib.IntN.{◌-ℤ◌}
 use lib.Signed.{lt_z, ◌≤ℤ◌}
+use Rattle.std.specs.declared.cmp.Ordering.{Ordering}
 use Rattle.laws.specs.Parts.{pos_part, ints}
 use Rattle.laws.specs.Logic.{eq_z_holds, lt_z_true, lt_z_holds, lt_z_fails}
-use Rattle.laws.specs.Circle.{names_it}
+use Rattle.laws.specs.Circle.{names, names_it}
 use Rattle.figures.specs.Outcome.{Outcome, answered, refused, and_then, map_answer}
-use Rattle.figures.specs.Points.{Point27}
+use Rattle.figures.specs.Points.{Point27, Point83, half_turn27, half_turn83}
+use Rattle.figures.specs.declared.Nad27.{Nad27}
 use Rattle.figures.proofs.Laws.{answer_not_refusal, same_answer}
 use Rattle.grid.specs.Grid.{Grid}
 use Rattle.grid.specs.Check.{Passes}
@@ -24,24 +26,12 @@ use Rattle.convert.proofs.Demands.{shifted_is, plus_shift}
 use Rattle.convert.proofs.Order.{KeepsOrder, keeps_order}
 use Rattle.order.specs.Standings.{line_standing, edge_standing, circle_standing}
 use Rattle.order.specs.Comparing.{on_meridian, on_parallel, compared, paired, order_of, meridian_order, parallel_order}
-use Rattle.order.specs.Needs.{LongitudesNamed}
 use Rattle.order.specs.declared.Order.{Order}
-use Rattle.order.specs.declared.standing.Standing.{Standing}
 use Rattle.order.proofs.StandingLaws.{line_asymmetric, distances_asymmetric, circle_asymmetric, is_east_lem, alike, same_as_itself}
 
 -- ---- two points converted
 
 module _ {A B : Type 0} where
-  pub first_refused : {o : Outcome A} (o' : Outcome B) {n k : ℕ} → refused n k ≡ o → refused n k ≡ paired o o'
-  first_refused o' e = rw (← e)
-
-  module _ {o : Outcome A} {o' : Outcome B} {a : A} (e : answered a ≡ o) where
-    pub second_refused : {n k : ℕ} → refused n k ≡ o' → refused n k ≡ paired o o'
-    second_refused d = rw (← e, ← d)
-
-    pub answers-paired : {b : B} → answered b ≡ o' → answered (a, b) ≡ paired o o'
-    answers-paired d = rw (← e, ← d)
-
   pub pair_refused : (o : Outcome A) (o' : Outcome B) {n k : ℕ} {C : Type 0} (r : Outcome C) → refused n k ≡ paired o o' → refused n k ≡ and_then o (and_then o' r)
   pair_refused (answered a) (answered b) r e = absurd (answer_not_refusal (sym e))
   pair_refused (answered a) (refused n k) r e = (cc)
@@ -54,10 +44,18 @@ module _ {A B : Type 0} where
 
 -- ---- their order
 
-order_kept : {related : Bool} {s t : Standing} → (related ≡ true → s ≡ t) → order_of related s t ≡ cond related Order.Kept Order.Unrelated
+order_kept : {related : Bool} {s t : Ordering} → (related ≡ true → s ≡ t) → order_of related s t ≡ cond related Order.Kept Order.Unrelated
 unfolding order_of
 order_kept {related = true} h = rw (same_as_itself (h refl))
 order_kept {related = false} h = refl
+
+-- every longitude names a place on its circle
+pub record LongitudesNamed (west : Nad27) (p q : Point27) (a b : Point83) : Type 0 where
+  pub of_west : names half_turn27 west.0 ≡ true
+  pub of_p : names half_turn27 p.lon.0 ≡ true
+  pub of_q : names half_turn27 q.lon.0 ≡ true
+  pub of_a : names half_turn83 a.lon.0 ≡ true
+  pub of_b : names half_turn83 b.lon.0 ≡ true
 
 module _ (g : Grid) (p q : Point27) {a b : Shifted} (e : answered (a, b) ≡ paired (to83 g p) (to83 g q)) where
   answers : (to83 g p ≡ answered a) × (to83 g q ≡ answered b)

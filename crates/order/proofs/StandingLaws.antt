@@ -1,9 +1,11 @@
 -- Laws of standings: of two, one at the most is ahead of the other; and two standings are the same where each way round leads to the other.
-use Prim.Native.Nat.{ℕ, ◌<◌}
+use Prim.Native.Nat.{◌<◌}
 use native.Mathlib.Omega.{arith}
 use mathlib.Core.Path.{◌≡◌, refl, sym, ap, ◌∙◌}
-use mathlib.Core.Bool.{Bool, true, false, beq}
-use borrow.Author.Tests.{ltb-true, lt-ltb, le-ltb}
+use mathlib.Core.Bool.{Bool, true, false}
+use borrow.Author.Tests.{ltb-true, lt-ltb, le-ltb, eq-eqb}
+use Rattle.std.specs.declared.cmp.Ordering.{Ordering}
+use Rattle.std.specs.Ordering.{ordering_index}
 use lib.Dec.{ltb}
 use lib.IntN.{ℤ}
 use lib.Signed.{lt_z, ◌<ℤ◌, ◌≤ℤ◌}
@@ -13,7 +15,6 @@ use Rattle.laws.specs.Circle.{distance, distance_back}
 use Rattle.figures.specs.Points.{half_turn83}
 use Rattle.convert.proofs.Places.{half83}
 use Rattle.order.specs.Standings.{standing_by, is_east, same_standing}
-use Rattle.order.specs.declared.standing.Standing.{Standing}
 
 -- what is ahead is not behind
 abbrev pub Asymmetric : {A : Type 0} → (A → A → Bool) → Type 0
@@ -25,18 +26,9 @@ line_asymmetric u v e = let l : u <ℤ v = lt_z_holds e in let m : u ≤ℤ v = 
 pub distances_asymmetric : Asymmetric ltb
 distances_asymmetric x y e = le-ltb y x (omega (arith, ltb-true x y e))
 
--- the way east, from what is known of it
-module _ (u v : ℤ) where
-  pub no_way : {d : ℕ} → d ≡ distance half_turn83 u v → d ≡ 0 → false ≡ is_east u v
-  unfolding is_east
-  no_way e z = rw (← e, z)
-
-  pub some_way : {d : ℕ} → d ≡ distance half_turn83 u v → 0 < d → ltb d half_turn83 ≡ is_east u v
-  unfolding is_east
-  some_way e h = rw (← e, lt-ltb 0 _ h)
-
-  pub is_east_lem : 0 < distance half_turn83 u v → distance half_turn83 u v < half_turn83 → is_east u v ≡ true
-  is_east_lem a b = sym (some_way refl a) ∙ lt-ltb _ _ b
+pub is_east_lem : (u v : ℤ) → 0 < distance half_turn83 u v → distance half_turn83 u v < half_turn83 → is_east u v ≡ true
+unfolding is_east
+is_east_lem u v a b = rw (lt-ltb _ _ a, lt-ltb _ _ b)
 
 pub circle_asymmetric : Asymmetric is_east
 unfolding is_east
@@ -56,21 +48,13 @@ module _ {A B : Type 0} {f : A → A → Bool} {f' : B → B → Bool} (w : Asym
       → standing_by f u v ≡ standing_by f' x y
   alike forward backward level = go (f u v) refl (f v u) refl
     where
-      made : {s t : Bool} → f u v ≡ s → f v u ≡ t → f' x y ≡ s → f' y x ≡ t → standing_by f u v ≡ standing_by f' x y
-      made a b c d = λ i. record { ahead = (a ∙ sym c) i; behind = (b ∙ sym d) i }
-
       none : f' x x ≡ false
       none = never (λ h. not_both h (w' x x h))
 
       go : (s : Bool) → f u v ≡ s → (t : Bool) → f v u ≡ t → standing_by f u v ≡ standing_by f' x y
-      go true a t b = let c = forward a in made a (w u v a) c (w' x y c)
-      go false a true b = let d = backward b in made a b (w' y x d) d
-      go false a false b = let e = sym (level a b) in made a b (ap (f' x) e ∙ none) (ap (λ z. f' z x) e ∙ none)
+      go true a t b = rw (a, forward a)
+      go false a true b = let d = backward b in rw (a, b, d, w' y x d)
+      go false a false b = let e = sym (level a b) in rw (a, b, ap (f' x) e ∙ none, ap (λ z. f' z x) e ∙ none)
 
-itself : (b : Bool) → beq b b ≡ true
-itself true = refl
-itself false = refl
-
-pub same_as_itself : {s t : Standing} → s ≡ t → same_standing s t ≡ true
-unfolding same_standing
-same_as_itself {s} {t} e = rw (e, itself t.ahead, itself t.behind)
+pub same_as_itself : {s t : Ordering} → s ≡ t → same_standing s t ≡ true
+same_as_itself {s} {t} e = rw (e, eq-eqb (ordering_index t) (ordering_index t) refl)

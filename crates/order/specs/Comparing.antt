@@ -1,21 +1,15 @@
 -- Two points converted and their answers compared (document 02, request 10).
 use Rattle.std.specs.Prelude.{Bool, cond}
+use Rattle.std.specs.declared.cmp.Ordering.{Ordering}
 use Rattle.laws.specs.Logic.{eq_z}
-use Rattle.figures.specs.Outcome.{Outcome, answered, refused, refusal, and_then}
+use Rattle.figures.specs.Outcome.{Outcome, answered, refused, and_then}
 use Rattle.figures.specs.declared.Nad27.{Nad27}
 use Rattle.figures.specs.Points.{Point27, Point83}
 use Rattle.grid.specs.Grid.{Grid}
 use Rattle.convert.specs.Convert.{to83}
 use Rattle.convert.specs.declared.Shifted.{Shifted}
 use Rattle.order.specs.Standings.{line_standing, edge_standing, circle_standing, same_standing}
-use Rattle.order.specs.declared.standing.Standing.{Standing}
 use Rattle.order.specs.declared.Order.{Order}
-use Rattle.order.specs.declared.Compared.{Compared}
-use Rattle.order.specs.declared.Pair.{Pair}
-
-abbrev pub compared_outcome : Compared → Outcome Order
-compared_outcome (Compared.Order o) = answered o
-compared_outcome (Compared.Refused w) = refusal w
 
 -- "two NAD 27 points on one meridian", "two on one parallel"
 abbrev pub on_meridian : (p q : Point27) → Bool
@@ -30,10 +24,6 @@ compared g p q related = and_then (to83 g p) (and_then (to83 g q) (answered (con
 
 -- ---- as the code has it
 
-abbrev pub pair_outcome : Pair → Outcome (Shifted × Shifted)
-pair_outcome (Pair.Answers a b) = answered (a, b)
-pair_outcome (Pair.Refused w) = refusal w
-
 -- both answers, or the first refusal
 abbrev pub paired : {A B : Type 0} → Outcome A → Outcome B → Outcome (A × B)
 paired (answered a) (answered b) = answered (a, b)
@@ -44,7 +34,7 @@ abbrev pub both_converted : Grid → (p q : Point27) → Outcome (Shifted × Shi
 both_converted g p q = paired (to83 g p) (to83 g q)
 
 -- of points that have an order: the answers stand as the points do, or not
-unfoldable pub order_of : (related : Bool) → (points answers : Standing) → Order
+unfoldable pub order_of : (related : Bool) → (points answers : Ordering) → Order
 order_of related s t = cond related (cond (same_standing s t) Order.Kept Order.Changed) Order.Unrelated
 
 abbrev pub meridian_order : (p q : Point27) (a b : Point83) → Order

@@ -1,3 +1,2 @@
 pub mod Standings
 pub mod Comparing
-pub mod Needs

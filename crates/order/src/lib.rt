@@ -5,17 +5,18 @@
 mod standing;
 
 ghost use Rattle.std.specs.Prelude.{◌≡◌};
-ghost use Rattle.grid.specs.Grid.{grid_of};
-ghost use Rattle.order.specs.Comparing.{on_meridian, on_parallel, compared_outcome, compared, pair_outcome, both_converted, order_of, meridian_order, parallel_order};
-ghost use Rattle.order.specs.Needs.{LongitudesNamed};
+ghost use Rattle.figures.specs.Outcome.{outcome};
+ghost use Rattle.grid.specs.Lent.{lent};
+ghost use Rattle.order.specs.Comparing.{on_meridian, on_parallel, compared, both_converted, order_of};
 
-use convert::{Answer83, Shifted};
-use figures::{Nad27, Point27, Point83, Refusal};
-use grid::Header;
-use standing::Standing;
+use convert::{Shifted, to83};
+use figures::{Figure, Nad27, Point27, Refusal};
+use grid::Grid;
+use standing::{circle_standing, distance};
+use std::cmp::Ordering;
 
 // Whether two answers stand to each other as their points do.
-#[derive(Clone, Copy)]
+#[derive(Clone, Copy, PartialEq, Eq)]
 pub enum Order {
     Kept,
     Changed,
@@ -23,100 +24,43 @@ pub enum Order {
     Unrelated,
 }
 
-#[derive(Clone, Copy)]
-pub enum Compared {
-    Order(Order),
-    Refused(Refusal),
-}
-
-// The answers of two points.
-#[derive(Clone, Copy)]
-enum Pair {
-    Answers(Shifted, Shifted),
-    Refused(Refusal),
-}
-
 // Of two points on one meridian: whether the northern one has the northern answer.
-pub fn along_meridian<'a>(
-    h: Header,
-    lat: &'a [i64],
-    lon: &'a [i64],
-    p: Point27,
-    q: Point27,
-) -> Compared
-    ensures { compared_outcome result ≡ compared (grid_of h lat.now lon.now) p q (on_meridian p q) }
+pub fn along_meridian(grid: Grid, p: Point27, q: Point27) -> Result<Order, Refusal>
+    ensures { outcome result ≡ compared (lent grid.entry) p q (on_meridian p q) }
 {
-    match convert_both(h, lat, lon, p, q) {
-        Pair::Refused(why) => Compared::Refused(why),
-        Pair::Answers(a, b) => Compared::Order(meridian_order(p, q, a.point, b.point)),
-    }
+    let (a, b) = convert_both(grid, p, q)?;
+    let points = p.lat.0.cmp(&q.lat.0);
+    let answers = a.point.lat.0.cmp(&b.point.lat.0);
+    Ok(order_of(p.lon == q.lon, points, answers))
 }
 
 // Of two points on one parallel: whether the one farther east of the west edge has the answer farther east, by less than half a turn.
-pub fn along_parallel<'a>(
-    h: Header,
-    lat: &'a [i64],
-    lon: &'a [i64],
-    p: Point27,
-    q: Point27,
-) -> Compared
-    ensures { compared_outcome result ≡ compared (grid_of h lat.now lon.now) p q (on_parallel p q) }
+pub fn along_parallel(grid: Grid, p: Point27, q: Point27) -> Result<Order, Refusal>
+    ensures { outcome result ≡ compared (lent grid.entry) p q (on_parallel p q) }
 {
-    match convert_both(h, lat, lon, p, q) {
-        Pair::Refused(why) => Compared::Refused(why),
-        Pair::Answers(a, b) => Compared::Order(parallel_order(h.west, p, q, a.point, b.point)),
-    }
+    let (a, b) = convert_both(grid, p, q)?;
+    let west = grid.header.west.0;
+    let p_east = distance(Nad27::HALF_TURN, west, p.lon.0);
+    let q_east = distance(Nad27::HALF_TURN, west, q.lon.0);
+    let answers = circle_standing(a.point.lon.0, b.point.lon.0);
+    Ok(order_of(p.lat == q.lat, p_east.cmp(&q_east), answers))
 }
 
-fn convert_both<'a>(h: Header, lat: &'a [i64], lon: &'a [i64], p: Point27, q: Point27) -> Pair
-    ensures { pair_outcome result ≡ both_converted (grid_of h lat.now lon.now) p q }
+fn convert_both(grid: Grid, p: Point27, q: Point27) -> Result<(Shifted, Shifted), Refusal>
+    ensures { outcome result ≡ both_converted (lent grid.entry) p q }
 {
-    match convert::to83(h, lat, lon, p) {
-        Answer83::Refused(why) => Pair::Refused(why),
-        Answer83::Point(a) => match convert::to83(h, lat, lon, q) {
-            Answer83::Refused(why) => Pair::Refused(why),
-            Answer83::Point(b) => Pair::Answers(a, b),
-        },
-    }
+    Ok((to83(grid, p)?, to83(grid, q)?))
 }
 
-fn meridian_order(p: Point27, q: Point27, a: Point83, b: Point83) -> Order
-    ensures { result ≡ meridian_order p q a b }
-{
-    let p_lat = p.lat;
-    let q_lat = q.lat;
-    let a_lat = a.lat;
-    let b_lat = b.lat;
-    let points = standing::line_standing(p_lat.0, q_lat.0);
-    let answers = standing::line_standing(a_lat.0, b_lat.0);
-    let p_lon = p.lon;
-    let q_lon = q.lon;
-    order_of(p_lon.0 == q_lon.0, points, answers)
-}
-
-fn parallel_order(west: Nad27, p: Point27, q: Point27, a: Point83, b: Point83) -> Order
-    requires { LongitudesNamed west p q a b }
-    ensures { result ≡ parallel_order west p q a b }
-{
-    let p_lon = p.lon;
-    let q_lon = q.lon;
-    let a_lon = a.lon;
-    let b_lon = b.lon;
-    let points = standing::edge_standing(west.0, p_lon.0, q_lon.0);
-    let answers = standing::circle_standing(a_lon.0, b_lon.0);
-    let p_lat = p.lat;
-    let q_lat = q.lat;
-    order_of(p_lat.0 == q_lat.0, points, answers)
-}
-
-fn order_of(related: bool, points: Standing, answers: Standing) -> Order
+#[tactic(auto, unfolding(crate::specs::Comparing::order_of))]
+fn order_of(related: bool, points: Ordering, answers: Ordering) -> Order
     ensures { result ≡ order_of related points answers }
 {
     if !related {
-        return Order::Unrelated;
+        Order::Unrelated
+    } else if points == answers {
+        Order::Kept
+    } else {
+        Order::Changed
     }
-    if points.same(answers) {
-        return Order::Kept;
-    }
-    Order::Changed
 }

@@ -1,11 +1,23 @@
-use Rattle.std.proofs.Common.{arith, to_z-of_z, ◌∙◌}
+use Rattle.std.proofs.Common.{rules, ◌≡◌, true, false, pos, ltb, ◌&&◌, FitsSigned, w64, to_z-of_z, sym, ap, ◌∙◌}
 use Rattle.laws.specs.Circle.{distance}
 use Rattle.figures.specs.Points.{half_turn83}
-use Rattle.order.proofs.StandingLaws.{no_way, some_way}
+use Rattle.order.specs.Standings.{is_east}
 use Rattle.order.proofs.standing.is_east.Goals as goal
 
-pub returns-then-way-eq0 : goal.returns-then-way-eq0
-returns-then-way-eq0 c = no_way _ _ (c.distance-way.ensures ∙ (λ i. distance half_turn83 (to_z-of_z c.ranges.u i) (to_z-of_z c.ranges.v i))) c.if-way-eq0.true
+pub returns-then-way-gt0 : goal.returns-then-way-gt0
+unfolding is_east
+returns-then-way-gt0 c =
+    let d = distance half_turn83 c.args.u c.args.v in
+    let f : FitsSigned w64 c.distance-way.result = search rules in
+    let e = to_z-of_z f ∙ c.distance-way.ensures ∙ (λ i. pos (distance half_turn83 (to_z-of_z c.ranges.u i) (to_z-of_z c.ranges.v i))) in
+    let t : ltb 0 d ≡ true = rw e at c.if-way-gt0.true in
+    rw e (ap (λ b. b && ltb d half_turn83) (sym t))
 
-pub returns : goal.returns
-returns c = some_way _ _ (c.distance-way.ensures ∙ (λ i. distance half_turn83 (to_z-of_z c.ranges.u i) (to_z-of_z c.ranges.v i))) (omega (arith, c.if-way-eq0.false))
+pub returns-else-way-gt0 : goal.returns-else-way-gt0
+unfolding is_east
+returns-else-way-gt0 c =
+    let d = distance half_turn83 c.args.u c.args.v in
+    let f : FitsSigned w64 c.distance-way.result = search rules in
+    let e = to_z-of_z f ∙ c.distance-way.ensures ∙ (λ i. pos (distance half_turn83 (to_z-of_z c.ranges.u i) (to_z-of_z c.ranges.v i))) in
+    let t : ltb 0 d ≡ false = rw e at c.if-way-gt0.false in
+    rw e (t ∙ ap (λ b. b && ltb d half_turn83) (sym t))
