@@ -5,6 +5,5 @@
 use list_io::Stopped;
 
 fn main(rt: HostRuntime) -> Result<(), Stopped> {
-    let mut requests = rt.stdin();
-    list_io::run(&rt, b"sheet.txt", &mut requests)
+    list_io::run(&rt, b"sheet.txt", &mut rt.stdin())
 }
