@@ -24,15 +24,15 @@ abbrev pub state_of : Listing → List ℤ
 state_of s = pos (length (held_line s)) ∷ s.totals.answered ∷ s.totals.refused ∷ []
 
 -- 8 with the elements needed: 65 bytes for the line, then three numbers
-unfoldable pub lent : (line : List ℕ) → (state : List ℤ) → Outcome ℕ → Outcome ℕ
-lent line state o = refuse_if (ltb (length line) 65) 8 65 (refuse_if (ltb (length state) 3) 8 3 o)
+unfoldable pub lent : (line : List ℕ) → (state : List ℤ) → Outcome Unit
+lent line state = refuse_if (ltb (length line) 65) 8 65 (refuse_if (ltb (length state) 3) 8 3 (answered tt))
 
 -- 2, 5, 3, 4, 14, then 8 for the list's memory, then 8 for the room
 unfoldable pub feeding_in : Grid → (line : List ℕ) → (state : List ℤ) → (piece room : List ℕ) → Outcome ℕ
-feeding_in g line state piece room = and_then (verdict g) (lent line state (in_room (fed_text g (list_in line state) piece) room))
+feeding_in g line state piece room = and_then (verdict g) (and_then (lent line state) (in_room (fed_text g (list_in line state) piece) room))
 
 unfoldable pub finishing_in : (line : List ℕ) → (state : List ℤ) → (room : List ℕ) → Outcome ℕ
-finishing_in line state room = lent line state (in_room (end_text (list_in line state)) room)
+finishing_in line state room = and_then (lent line state) (in_room (end_text (list_in line state)) room)
 
 -- the numbers of the list take the front of their slice; after a refusal the slice is as it was
 unfoldable pub state_after : Outcome ℕ → Listing → (state : List ℤ) → List ℤ

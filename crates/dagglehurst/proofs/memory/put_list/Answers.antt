@@ -1,28 +1,20 @@
-use Rattle.std.proofs.Common.{[], ◌∷◌, pos, SFits, refl, ap, ◌∙◌, arith, rules}
+use Rattle.std.proofs.Common.{◌≡◌, [], ◌∷◌, length, to_z, ap, ◌∙◌, arith, rules}
 use Rattle.std.specs.Int.{w64}
-use Rattle.laws.specs.Over.{over}
-use Rattle.dagglehurst.proofs.Laws.{front_none, front_more}
-use Rattle.dagglehurst.proofs.ListLaws.{held_short, line-stored}
+use lib.Seq.{sets}
+use Rattle.laws.specs.Expr.{machine}
+use Rattle.list_state.specs.State.{held_line}
+use Rattle.dagglehurst.specs.Pieces.{state_of}
+use Rattle.dagglehurst.proofs.Laws.{front_sets}
+use Rattle.dagglehurst.proofs.ListLaws.{held_short}
 use Rattle.dagglehurst.proofs.memory.put_list.Goals as goal
 
--- the number of the line's bytes is known
-pub overflow_cast-n : goal.overflow_cast-n
-overflow_cast-n c =
-    let p = line-stored c.args.list c.write_line.ensures c.bytes-n.ensures c.requires.0 (omega arith) in
-    record { sfits = omega (arith, p.1, held_short c.args.list) }
+pub returns-clause-line : goal.returns-clause-line
+returns-clause-line c =
+    let l = held_line c.args.list in
+    c.put_all.ensures ∙ ap (λ w. sets c.args.line.now 0 w) c.line-held.ensures ∙ front_sets l c.args.line.now (omega (arith, held_short c.args.list))
 
-pub returns : goal.returns
-returns c =
-    let l = c.args.list in
-    let h = c.requires.1 in
-    let p = line-stored l c.write_line.ensures c.bytes-n.ensures c.requires.0 (omega arith) in
-    let n : SFits w64 (pos c.bytes-n.result) = record { sfits = omega (arith, p.1, held_short l) } in
-    let answered : SFits w64 l.totals.answered = search rules in
-    let refused : SFits w64 l.totals.refused = search rules in
-    let e1 = front_more 0 n c.put.ensures (front_none c.args.state.now) refl (omega (arith, h)) in
-    let e2 = front_more 1 answered c.put-2.ensures e1 refl (omega (arith, h)) in
-    let e3 = front_more 2 refused c.put-3.ensures e2 refl (omega (arith, h)) in
-    record {
-      line = p.0;
-      state = e3.is ∙ ap (λ k. over (pos k ∷ l.totals.answered ∷ l.totals.refused ∷ []) c.args.state.now) p.1;
-    }
+pub returns-clause-state : goal.returns-clause-state
+returns-clause-state c =
+    let t = c.args.list.totals in
+    let e : (to_z w64 (length c.line-held.result.now) ∷ machine t.answered ∷ machine t.refused ∷ []) ≡ state_of c.args.list = search rules in
+    c.put_all-2.ensures ∙ ap (λ w. sets c.args.state.now 0 w) e ∙ front_sets (state_of c.args.list) c.args.state.now c.requires.1

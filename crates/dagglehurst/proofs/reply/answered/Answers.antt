@@ -1,7 +1,0 @@
-use Rattle.std.proofs.Common.{rules}
-use Rattle.dagglehurst.specs.Reply.{reply}
-use Rattle.dagglehurst.proofs.reply.answered.Goals as goal
-
-pub returns : goal.returns
-unfolding reply
-returns c = search rules
