@@ -1,40 +1,36 @@
 // Edits of a sheet's text.
-use super::substring::place_of;
-use script::expansion::expand;
-use script::text::{after, byte_at, find, piece, put_all, rest};
+use arrayvec::ArrayVec;
+use script::cursor::Cursor;
+use script::text::{Text, expand};
+use std::io::Write;
 
-#[derive(Clone, Copy)]
-pub(crate) enum Edited {
-    // The length of the text.
-    Text(usize),
-    // What is to be replaced does not stand in the sheet.
-    Missing,
+// The sheet with an edit, if what is to be replaced stands in it: `OLD>NEW` puts NEW for the first OLD, and after `OLD|NEW` the text
+// ends there.
+pub(crate) fn edited(edit: &[u8], sheet: &[u8]) -> Option<Text> {
+    let sign = if edit.contains(&b'>') { b'>' } else { b'|' };
+    let mut words = Cursor::new(edit);
+    let mut old = ArrayVec::<u8, 4_096>::new();
+    expand(words.word(sign), &mut old);
+    let (front, back) = cut(sheet, &old)?;
+    let mut text = Text::new();
+    append(&mut text, front);
+    expand(words.rest, &mut text);
+    if sign == b'>' || !edit.contains(&b'|') {
+        append(&mut text, back);
+    }
+    Some(text)
 }
 
-// Writes the sheet with an edit: `OLD>NEW` puts NEW for the first OLD, and after `OLD|NEW` the text ends there.
-pub(crate) fn edit<'a>(edit: &'a [u8], sheet: &'a [u8], text: &mut [u8]) -> Edited {
-    let middle = sign(edit);
-    let mut space = [0u8; 4_096];
-    let n = expand(piece(edit, 0, middle), &mut space, 0);
-    let old = piece(&space, 0, n);
-    let k = place_of(sheet, old);
-    if sheet.len() < k {
-        return Edited::Missing;
+// What stands before the first `word` of a text, and behind it.
+fn cut<'a>(text: &'a [u8], word: &[u8]) -> Option<(&'a [u8], &'a [u8])> {
+    if word.is_empty() {
+        return Some((&[], text));
     }
-    let at = put_all(text, 0, piece(sheet, 0, k));
-    let at = expand(rest(edit, after(edit, middle)), text, at);
-    if byte_at(edit, middle) == b'|' {
-        return Edited::Text(at);
-    }
-    let behind = rest(rest(sheet, k), old.len());
-    Edited::Text(put_all(text, at, behind))
+    let place = text.windows(word.len()).position(|window| window == word)?;
+    Some((&text[..place], &text[place + word.len()..]))
 }
 
-// The place of an edit's sign.
-fn sign(edit: &[u8]) -> usize {
-    let i = find(edit, 0, b'>');
-    if i < edit.len() {
-        return i;
-    }
-    find(edit, 0, b'|')
+// As many bytes as there is room for.
+fn append(text: &mut Text, bytes: &[u8]) {
+    let _ = text.write(bytes);
 }

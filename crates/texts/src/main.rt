@@ -14,38 +14,16 @@
 #![tactic(auto)]
 
 mod again;
-mod cases;
 mod edits;
 mod lent;
 mod reading;
-mod substring;
+mod texts;
 
-use cases::Run;
-use script::groups::Line;
-use script::input::{read_full, room};
-use script::report::Report;
-use script::text::find;
+use script::cases::run;
 use std::io;
+use texts::Texts;
 
 fn main(rt: HostRuntime) -> io::Result<()> {
-    let mut space = room();
-    let mut sheet = room();
-    let mut text = room();
-    let mut input = rt.stdin();
-    let n = read_full(&mut input, &mut space)?;
-    let mut report = Report::new(&rt);
-    run(&space[..n], &mut sheet, &mut text, &mut report);
-    report.end()
-}
-
-// Runs a script, with room for a sheet and for a text that is made of it.
-fn run<R: Print>(script: &[u8], sheet: &mut [u8], text: &mut [u8], report: &mut Report<R>) {
-    let mut run = Run::new();
-    let mut from: usize = 0;
-    while from < script.len() {
-        let to = find(script, from, b'\n');
-        run = cases::line(run, script, Line { from, to }, sheet, text, report);
-        from = to + 1;
-    }
-    run.finish(script, report);
+    run(&rt, &mut rt.stdin(), &mut Texts::new())?;
+    Ok(())
 }
