@@ -5,6 +5,5 @@
 use std::io;
 
 fn main(rt: HostRuntime) -> io::Result<()> {
-    let mut input = rt.stdin();
-    point_cases::run_script(&rt, &mut input)
+    point_cases::run_script(&rt, &mut rt.stdin())
 }

@@ -19,39 +19,17 @@
 // Empty lines and lines that start with `#` are passed over.
 #![tactic(auto)]
 
-mod calls;
-mod case;
-mod lines;
-mod numbers;
+mod call;
+mod points;
+mod reading;
 
-use lines::Run;
-use script::groups::Line;
-use script::input::{read_full, room};
-use script::numbers::shifts;
-use script::report::Report;
-use script::text::find;
+use points::Points;
+use script::cases::run;
 use std::io;
 use std::io::Read;
 
 // Runs the script that `input` reads, and prints what it came to.
 pub fn run_script<R: Print, I: Read>(rt: &R, input: &mut I) -> io::Result<()> {
-    let mut space = room();
-    let mut lat = shifts();
-    let mut lon = shifts();
-    let n = read_full(input, &mut space)?;
-    let mut report = Report::new(rt);
-    run(&space[..n], &mut lat, &mut lon, &mut report);
-    report.end()
-}
-
-// Runs a script, with room for the shifts of a grid.
-fn run<R: Print>(script: &[u8], lat: &mut [i64], lon: &mut [i64], report: &mut Report<R>) {
-    let mut run = Run::new();
-    let mut from: usize = 0;
-    while from < script.len() {
-        let to = find(script, from, b'\n');
-        run = lines::line(run, script, Line { from, to }, lat, lon, report);
-        from = to + 1;
-    }
-    run.finish(script, report);
+    run(rt, input, &mut Points::new())?;
+    Ok(())
 }
