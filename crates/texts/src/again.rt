@@ -22,11 +22,7 @@ fn fits(text: &[u8], room: &mut [u8]) -> bool {
 
 // Whether the room is refused as too short, and stays as it was.
 fn is_refused_short(text: &[u8], room: &mut [u8]) -> bool {
-    let Some(room) = text
-        .len()
-        .checked_sub(1)
-        .and_then(|short| room.get_mut(..short))
-    else {
+    let Some(room) = room.get_mut(..text.len().saturating_sub(1)) else {
         return false;
     };
     if let Some(first) = room.first_mut() {
