@@ -31,12 +31,12 @@ fn serve_in<R: Print, I: Read>(
     for _ in 0..u64::MAX {
         let n = requests.read(&mut block).map_err(Stopped::Input)?;
         if n == 0 {
+            let totals = listing::finish(list, room)?;
+            send(rt, &room[..totals])?;
             break;
         }
         let replies = listing::feed(&mut list, grid, &block[..n], room)?;
         send(rt, &room[..replies])?;
     }
-    let totals = listing::finish(list, room)?;
-    send(rt, &room[..totals])?;
     Ok(())
 }
