@@ -1,16 +1,16 @@
 -- A number under way: the bytes that were read are its part, and a byte that is not refused stands behind them.
 use Prim.Native.Nat.{ℕ, zero, suc, ◌+◌, ◌-◌, ◌*◌, ◌^◌, ◌≤◌, ◌<◌}
 use mathlib.Core.Path.{◌≡◌, refl, sym, ◌∙◌}
-use mathlib.Core.Bool.{Bool, true, false, ◌&&◌, true≢false}
+use mathlib.Core.Bool.{Bool, true, false, ◌&&◌, cond, true≢false}
 use mathlib.Core.List.{[], ◌∷◌, ◌++◌, append_assoc, append-nil}
 use native.Mathlib.Omega.{arith}
-use borrow.Author.Tests.{le-ltb, ne_eqb}
-use lib.Dec.{eqb}
-use lib.IntN.{ℤ}
-use Rattle.std.specs.Prelude.{Option, Some, None}
+use borrow.Author.Tests.{ltb-false, le-ltb, ne_eqb}
+use lib.Dec.{ltb, eqb}
+use lib.IntN.{ℤ, pos}
+use Rattle.std.specs.Prelude.{Option, Some, None, unwrap_or}
 use Rattle.laws.specs.Logic.{and_false}
 use Rattle.decimal.specs.Spelling.{digits, sign, spell, Short}
-use Rattle.decimal.specs.Pushing.{number, none, pushed, signed, value_of, part}
+use Rattle.decimal.specs.Pushing.{number, none, pushed, signed, signed_value, value_of, value_or0, part}
 use Rattle.decimal.specs.declared.Number.{Number}
 use Rattle.decimal.proofs.Bytes.{digit_range}
 use Rattle.decimal.proofs.Pushes.{Pushes, digit_first, digit_more, minus, pushes_grown}
@@ -63,6 +63,19 @@ signed_short : (negative : Bool) (m : ℕ) → m < 10 ^ 11 → Short (signed neg
 signed_short false m h = h
 signed_short true zero h = h
 signed_short true (suc m) h = h
+
+-- whatever a caller has made of a number, its value is no longer than a text's
+pub value_short : (n : Number) → Short (value_or0 n)
+unfolding value_of
+value_short n = go n.magnitude
+  where
+    small : (m : ℕ) (t : Bool) → ltb 99999999999 m ≡ t → Short (unwrap_or (cond t None (Some (signed n.negative m))) (pos 0))
+    small m true e = omega arith
+    small m false e = signed_short n.negative m (omega (arith, ltb-false 99999999999 m e))
+
+    go : (o : Option ℕ) → Short (unwrap_or (signed_value n.negative o) (pos 0))
+    go None = omega arith
+    go (Some m) = small m (ltb 99999999999 m) refl
 
 pub value_small : (n : Number) (m : ℕ) → n.magnitude ≡ Some m → m < 10 ^ 11 → value_of n ≡ Some (signed n.negative m)
 unfolding value_of

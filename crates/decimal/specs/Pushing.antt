@@ -1,5 +1,5 @@
 -- A number read byte by byte, and refused at the first byte after which no number can follow.
-use Rattle.std.specs.Prelude.{ℕ, ◌+◌, ◌*◌, ◌-◌, Bool, true, false, ◌&&◌, ◌||◌, cond, List, [], ◌∷◌, ◌++◌, ltb, eqb, ℤ, pos, neg_ℤ, Option, Some, None, is_some, option_and_then}
+use Rattle.std.specs.Prelude.{ℕ, ◌+◌, ◌*◌, ◌-◌, Bool, true, false, ◌&&◌, ◌||◌, cond, List, [], ◌∷◌, ◌++◌, ltb, eqb, ℤ, pos, neg_ℤ, Option, Some, None, is_some, option_and_then, unwrap_or}
 use Rattle.decimal.specs.Spelling.{is_digit, digits, sign}
 use Rattle.decimal.specs.declared.Number.{Number}
 
@@ -36,6 +36,10 @@ signed_value n (Some m) = cond (ltb 99999999999 m) None (Some (signed n m))
 -- the integer that was read, once there is a digit; no text has a magnitude beyond 11 digits
 unfoldable pub value_of : Number → Option ℤ
 value_of n = signed_value n.negative n.magnitude
+
+-- the same, or 0 where there is none
+abbrev pub value_or0 : Number → ℤ
+value_or0 n = unwrap_or (value_of n) (pos 0)
 
 abbrev pub digits_of : Option ℕ → List ℕ
 digits_of None = []

@@ -28,7 +28,7 @@ pub fn read_number(text: &[u8]) -> Option<i64>
     for byte in text {
         number = number.push(*byte)?;
     }
-    number.value()
+    number.finish()
 }
 
 // Writes a number over the front of the room. No number takes more than 20 bytes.

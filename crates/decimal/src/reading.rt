@@ -1,6 +1,6 @@
 // A number read byte by byte.
 ghost use Rattle.std.specs.Prelude.{◌≡◌, ◌≤◌};
-ghost use Rattle.decimal.specs.Pushing.{none, digit_pushed, pushed, value_of};
+ghost use Rattle.decimal.specs.Pushing.{none, digit_pushed, pushed, value_of, value_or0};
 
 use super::Number;
 
@@ -54,7 +54,7 @@ impl Number {
 
     // The integer that was read, once there is a digit. No text has a magnitude beyond 11 digits.
     #[tactic(auto, unfolding(crate::specs::Pushing::value_of))]
-    pub fn value(self) -> Option<i64>
+    pub fn finish(self) -> Option<i64>
         ensures { result ≡ value_of self }
     {
         match self.magnitude {
@@ -62,5 +62,12 @@ impl Number {
             Some(m) if m <= Number::MAX => Some(m as i64),
             _ => None,
         }
+    }
+
+    // The same, or 0 where there is none.
+    pub fn value(self) -> i64
+        ensures { result ≡ value_or0 self }
+    {
+        self.finish().unwrap_or(0)
     }
 }

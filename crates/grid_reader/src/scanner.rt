@@ -75,7 +75,7 @@ impl Scan {
         ensures { outcome result ≡ number_step room self byte }
     {
         if byte == form_at(self.at + 1) {
-            let x = self.number.value().ok_or_else(|| self.departure())?;
+            let x = self.number.finish().ok_or_else(|| self.departure())?;
             return self.close(x, room);
         }
         let number = self.number.push(byte).ok_or_else(|| self.departure())?;

@@ -43,7 +43,7 @@ fn list<R: Files + Print, I: Read>(rt: &R, sheet: &[u8], requests: &mut I) -> Re
 // `no=NUMBER,PLACE`
 fn refuse<R: Print>(rt: &R, why: Refusal) -> Result<(), Stopped> {
     let mut line = [0; Reply::MAX_TEXT];
-    let n = Reply::NoSheet(why).put(&mut line);
+    let n = Reply::from(why).put(&mut line);
     send(rt, &line[..n])
 }
 

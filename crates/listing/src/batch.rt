@@ -138,7 +138,7 @@ impl Batch {
 }
 
 // The place of the newline that ends the first line.
-fn line_end(text: &[u8]) -> Option<usize>
+pub(crate) fn line_end(text: &[u8]) -> Option<usize>
     ensures { result ≡ position is_newline text.now }
 {
     text.iter().position(|b| *b == b'\n')

@@ -5,7 +5,7 @@ ghost use Rattle.listing.specs.Listing.{list_text};
 ghost use Rattle.listing.specs.Pieces.{end_text};
 ghost use Rattle.listing.specs.Needs.{FedFront, FedWhole};
 
-use super::batch::Batch;
+use super::batch::{Batch, line_end};
 use grid::CheckedGrid;
 use list_state::Listing;
 use requests::Reply;
@@ -43,15 +43,16 @@ pub(crate) fn put_replies(
 fn put_batch(list: &mut Listing, grid: CheckedGrid, text: &[u8], room: &mut [u8]) -> Advance
     ensures { FedFront (lent grid.entry.grid) list.old text.now list.new room.old room.new result }
 {
-    let mut batch = Batch::new();
-    let taken = batch.read(*list, text);
-    if batch.lines == 0 {
+    // A batch is large, and is made only where there is something to convert.
+    if line_end(text).is_none() {
         *list = list.hold(text);
         return Advance {
             taken: text.len(),
             bytes: 0,
         };
     }
+    let mut batch = Batch::new();
+    let taken = batch.read(*list, text);
     batch.convert(grid);
     let bytes = batch.put(&mut list.totals, room);
     *list = Listing::between(list.totals);

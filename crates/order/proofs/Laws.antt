@@ -10,10 +10,9 @@ use lib.Signed.{lt_z, ◌≤ℤ◌}
 use Rattle.std.specs.declared.cmp.Ordering.{Ordering}
 use Rattle.laws.specs.Parts.{pos_part, ints}
 use Rattle.laws.specs.Logic.{eq_z_holds, lt_z_true, lt_z_holds, lt_z_fails}
-use Rattle.laws.specs.Circle.{names, names_it}
+use Rattle.laws.specs.Circle.{names_it}
 use Rattle.figures.specs.Outcome.{Outcome, answered, refused, and_then, map_answer}
-use Rattle.figures.specs.Points.{Point27, Point83, half_turn27, half_turn83}
-use Rattle.figures.specs.declared.Nad27.{Nad27}
+use Rattle.figures.specs.Points.{Point27}
 use Rattle.figures.proofs.Laws.{answer_not_refusal, same_answer}
 use Rattle.grid.specs.Grid.{Grid}
 use Rattle.grid.specs.Check.{Passes}
@@ -26,6 +25,7 @@ use Rattle.convert.proofs.Demands.{shifted_is, plus_shift}
 use Rattle.convert.proofs.Order.{KeepsOrder, keeps_order}
 use Rattle.order.specs.Standings.{line_standing, edge_standing, circle_standing}
 use Rattle.order.specs.Comparing.{on_meridian, on_parallel, compared, paired, order_of, meridian_order, parallel_order}
+use Rattle.order.specs.Needs.{LongitudesNamed}
 use Rattle.order.specs.declared.Order.{Order}
 use Rattle.order.proofs.StandingLaws.{line_asymmetric, distances_asymmetric, circle_asymmetric, is_east_lem, alike, same_as_itself}
 
@@ -48,14 +48,6 @@ order_kept : {related : Bool} {s t : Ordering} → (related ≡ true → s ≡ t
 unfolding order_of
 order_kept {related = true} h = rw (same_as_itself (h refl))
 order_kept {related = false} h = refl
-
--- every longitude names a place on its circle
-pub record LongitudesNamed (west : Nad27) (p q : Point27) (a b : Point83) : Type 0 where
-  pub of_west : names half_turn27 west.0 ≡ true
-  pub of_p : names half_turn27 p.lon.0 ≡ true
-  pub of_q : names half_turn27 q.lon.0 ≡ true
-  pub of_a : names half_turn83 a.lon.0 ≡ true
-  pub of_b : names half_turn83 b.lon.0 ≡ true
 
 module _ (g : Grid) (p q : Point27) {a b : Shifted} (e : answered (a, b) ≡ paired (to83 g p) (to83 g q)) where
   answers : (to83 g p ≡ answered a) × (to83 g q ≡ answered b)

@@ -1,11 +1,12 @@
 -- Laws of standings: of two, one at the most is ahead of the other; and two standings are the same where each way round leads to the other.
-use Prim.Native.Nat.{◌<◌}
+use Prim.Native.Nat.{ℕ, ◌<◌}
 use native.Mathlib.Omega.{arith}
 use mathlib.Core.Path.{◌≡◌, refl, sym, ap, ◌∙◌}
 use mathlib.Core.Bool.{Bool, true, false}
 use borrow.Author.Tests.{ltb-true, lt-ltb, le-ltb, eq-eqb}
 use Rattle.std.specs.declared.cmp.Ordering.{Ordering}
-use Rattle.std.specs.Ordering.{ordering_index}
+use Rattle.std.specs.Ordering.{ordering_index, nat_cmp, MatchOrdering}
+use Rattle.std.specs.Cmp.{ranks}
 use lib.Dec.{ltb}
 use lib.IntN.{ℤ}
 use lib.Signed.{lt_z, ◌<ℤ◌, ◌≤ℤ◌}
@@ -25,6 +26,15 @@ line_asymmetric u v e = let l : u <ℤ v = lt_z_holds e in let m : u ≤ℤ v = 
 
 pub distances_asymmetric : Asymmetric ltb
 distances_asymmetric x y e = le-ltb y x (omega (arith, ltb-true x y e))
+
+-- two distances as the library compares them
+pub distances_stand : (x y : ℕ) → nat_cmp x y ≡ standing_by ltb x y
+distances_stand x y = go (nat_cmp x y) (ranks x y)
+  where
+    go : (o : Ordering) → MatchOrdering o (x < y) (x ≡ y) (y < x) → o ≡ standing_by ltb x y
+    go Ordering.Less h = rw (lt-ltb x y h)
+    go Ordering.Equal h = rw (le-ltb x y (omega arith), le-ltb y x (omega arith))
+    go Ordering.Greater h = rw (le-ltb x y (omega arith), lt-ltb y x h)
 
 pub is_east_lem : (u v : ℤ) → 0 < distance half_turn83 u v → distance half_turn83 u v < half_turn83 → is_east u v ≡ true
 unfolding is_east

@@ -1,2 +1,3 @@
 pub mod Standings
 pub mod Comparing
+pub mod Needs

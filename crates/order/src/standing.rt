@@ -1,6 +1,6 @@
 // How two answers stand to each other along a parallel, which is a circle: `Less` where the second is ahead, east of the first by less than
 // half a turn, and `Greater` where it is behind.
-ghost use Rattle.std.specs.Prelude.{◌≡◌, true, ◌≤◌, pos};
+ghost use Rattle.std.specs.Prelude.{◌≡◌, true, ◌≤◌};
 ghost use Rattle.laws.specs.Circle.{names, distance};
 ghost use Rattle.figures.specs.Points.{half_turn83};
 ghost use Rattle.order.specs.Standings.{is_east, circle_standing};
@@ -28,13 +28,16 @@ fn is_east(u: i64, v: i64) -> bool
     ensures { result ≡ is_east u v }
 {
     let way = distance(Nad83::HALF_TURN, u, v);
-    0 < way && way < Nad83::HALF_TURN as i64
+    0 < way && way < Nad83::HALF_TURN
 }
 
 // How far a place is east of another, by the names of both.
-pub(crate) fn distance(half: usize, from: i64, v: i64) -> i64
+pub(crate) fn distance(half: usize, from: i64, v: i64) -> usize
     requires { (half ≤ 64800000000) × (names half from ≡ true) × (names half v ≡ true) }
-    ensures { result ≡ pos (distance half from v) }
+    ensures { result ≡ distance half from v }
 {
-    (v - from).rem_euclid(2 * half as i64)
+    if v < from {
+        return (v - from + 2 * (half as i64)) as usize;
+    }
+    (v - from) as usize
 }

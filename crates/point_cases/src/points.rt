@@ -1,10 +1,11 @@
 // The run of a script over its lines.
 use super::call::Call;
-use super::reading::{Shifts, header, header_of, numbers, shifts};
+use super::reading::{Shifts, header_of, numbers, read_shifts};
 use grid::{Grid, Header};
 use script::cases::{Case, Cases};
 use script::cursor::Cursor;
 use script::outcome::{Outcome, Refused};
+use script::text::{Text, expand};
 
 // The grid that the next cases are over.
 #[derive(Drop)]
@@ -12,6 +13,8 @@ pub(crate) struct Points {
     header: Header,
     lat: Shifts,
     lon: Shifts,
+    // The numbers of the line under way, written out. A room is kept from line to line, since to make one takes longer than a line.
+    text: Text,
 }
 
 impl Points {
@@ -20,6 +23,7 @@ impl Points {
             header: header_of([0; 6]),
             lat: Shifts::new(),
             lon: Shifts::new(),
+            text: Text::new(),
         }
     }
 
@@ -55,6 +59,11 @@ impl Points {
         }
     }
 
+    fn write_out(&mut self, words: &[u8]) {
+        self.text.clear();
+        expand(words, &mut self.text);
+    }
+
     fn grid(&self) -> Grid<'_> {
         Grid {
             header: self.header,
@@ -67,9 +76,18 @@ impl Points {
 impl Cases for Points {
     fn line(&mut self, line: &[u8]) -> Option<Case> {
         match line {
-            [b'h', ..] => self.header = header(line.get(7..).unwrap_or_default()),
-            [b'l', b'a', ..] => self.lat = shifts(line.get(4..).unwrap_or_default()),
-            [b'l', ..] => self.lon = shifts(line.get(4..).unwrap_or_default()),
+            [b'h', ..] => {
+                self.write_out(line.get(7..).unwrap_or_default());
+                self.header = header_of(numbers(&self.text));
+            }
+            [b'l', b'a', ..] => {
+                self.write_out(line.get(4..).unwrap_or_default());
+                read_shifts(&self.text, &mut self.lat);
+            }
+            [b'l', ..] => {
+                self.write_out(line.get(4..).unwrap_or_default());
+                read_shifts(&self.text, &mut self.lon);
+            }
             _ => return Some(self.case(line)),
         }
         None

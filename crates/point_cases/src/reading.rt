@@ -4,28 +4,18 @@ use figures::{Figure, Point};
 use grid::Header;
 use script::cursor::Cursor;
 use script::numbers::{Numbers, SHIFTS};
-use script::text::{Text, expand};
 
 // The shifts of a grid's nodes, of one component.
 pub(crate) type Shifts = ArrayVec<i64, SHIFTS>;
-
-pub(crate) fn header(line: &[u8]) -> Header {
-    let mut text = Text::new();
-    expand(line, &mut text);
-    header_of(numbers(&text))
-}
 
 pub(crate) fn header_of([south, west, dlat, dlon, rows, cols]: [i64; 6]) -> Header {
     Header::new(south, west, dlat, dlon, rows, cols)
 }
 
 // As many shifts as there is room for.
-pub(crate) fn shifts(line: &[u8]) -> Shifts {
-    let mut text = Text::new();
-    expand(line, &mut text);
-    let mut shifts = Shifts::new();
-    let _ = shifts.extend(Numbers::new(&text));
-    shifts
+pub(crate) fn read_shifts(text: &[u8], shifts: &mut Shifts) {
+    shifts.clear();
+    let _ = shifts.extend(Numbers::new(text));
 }
 
 // The first numbers of a text, and 0 where it has no more.

@@ -1,5 +1,5 @@
 -- The reply to a request line, and its text (document 01, "The list program").
-use Rattle.std.specs.Prelude.{ℕ, min, Bool, true, false, List, [], ◌∷◌, ℤ, pos}
+use Rattle.std.specs.Prelude.{ℕ, min, Bool, true, false, List, [], ◌∷◌, pos}
 use Rattle.laws.specs.Bytes.{bytes}
 use Rattle.figures.specs.Refusal.{number_of, place_of}
 use Rattle.figures.specs.Outcome.{Outcome, answered, refused}
@@ -32,18 +32,18 @@ reply_to g (refused n k) = Reply.No (pos n)
 abbrev pub told_place : ℕ → ℕ
 told_place k = min k 9223372036854775807
 
+-- "A refused sheet prints only `no=NUMBER,PLACE`."
+abbrev pub no_sheet : Refusal → Reply
+no_sheet w = Reply.NoSheet (pos (number_of w)) (pos (told_place (place_of w)))
+
 -- a request line was answered by it
 abbrev pub is_answer : Reply → Bool
 is_answer (Reply.No n) = false
-is_answer (Reply.NoSheet w) = false
+is_answer (Reply.NoSheet n k) = false
 is_answer (Reply.Sheet n) = true
 is_answer (Reply.In83 a) = true
 is_answer (Reply.In27 p) = true
 is_answer (Reply.Done a b) = true
-
--- "A refused sheet prints only `no=NUMBER,PLACE`."
-abbrev pub refusal_numbers : Refusal → List ℤ
-refusal_numbers w = pos (number_of w) ∷ pos (told_place (place_of w)) ∷ []
 
 -- ---- their text; document 02, request 7: "`ok83` lines gain these as a third and fourth number"
 
@@ -52,7 +52,7 @@ reply_text (Reply.Sheet n) = line (bytes "sheet=") (n ∷ [])
 reply_text (Reply.In83 a) = line (bytes "ok83=") (numbers83 a)
 reply_text (Reply.In27 p) = line (bytes "ok27=") (numbers27 p)
 reply_text (Reply.No n) = line (bytes "no=") (n ∷ [])
-reply_text (Reply.NoSheet w) = line (bytes "no=") (refusal_numbers w)
+reply_text (Reply.NoSheet n k) = line (bytes "no=") (n ∷ k ∷ [])
 reply_text (Reply.Done a b) = line (bytes "done=") (a ∷ b ∷ [])
 
 -- no line of the list is longer: a key of 5 bytes, two numbers of 20 and two signs of 2, three commas and the newline

@@ -28,8 +28,8 @@ pub enum Reply {
     In27(Point27),
     // The number of a refusal.
     No(i64),
-    // The grid is refused, and there is no list.
-    NoSheet(Refusal),
+    // The number and the place of a refusal: the grid is refused, and there is no list.
+    NoSheet(i64, i64),
     // How many request lines were answered, and how many were refused.
     Done(i64, i64),
 }

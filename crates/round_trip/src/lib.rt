@@ -29,8 +29,11 @@ pub fn back_and_there(grid: Grid, f: Point83) -> Result<Shifted, Refusal>
 pub fn share_answer(grid: Grid, p: Point27, q: Point27) -> bool
     ensures { result ≡ one_answer (lent grid.entry) p q }
 {
-    match (to83(grid, p), to83(grid, q)) {
-        (Ok(a), Ok(b)) => a.point == b.point,
-        _ => false,
+    let Ok(a) = to83(grid, p) else {
+        return false;
+    };
+    match to83(grid, q) {
+        Ok(b) => a.point == b.point,
+        Err(_) => false,
     }
 }

@@ -1,4 +1,7 @@
 // The run over the lines of a script.
+ghost use Rattle.std.specs.Prelude.{◌↔◌, IfOk, IsTrue};
+ghost use Rattle.script.specs.Outcome.{Agrees};
+
 use super::groups::Groups;
 use super::outcome::{Outcome, Refused};
 use input::read_full;
@@ -45,7 +48,9 @@ fn run_lines<R: Print, C: Cases>(rt: &R, script: &[u8], cases: &mut C) -> io::Re
 }
 
 // Whether a case came to what the script says, and a line for it where it did not.
-fn judge<R: Print>(rt: &R, line: &[u8], case: Case) -> io::Result<bool> {
+fn judge<R: Print>(rt: &R, line: &[u8], case: Case) -> io::Result<bool>
+    ensures { IfOk result (λ right. IsTrue right ↔ Agrees case.came case.wanted) }
+{
     let right = case.came.is(case.wanted);
     if !right {
         rt.write_all(b"wrong ")?;

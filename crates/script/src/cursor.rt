@@ -2,6 +2,7 @@
 ghost use Rattle.std.specs.Prelude.{◌≡◌, ◌-◌, ◌==◌, ◌≤◌, length};
 ghost use Rattle.std.specs.Iterator.{YieldsFirst, item_count};
 ghost use Rattle.std.specs.List.{position, before_first, after_first};
+ghost use Rattle.script.specs.Reading.{LeftOf};
 
 #[derive(Clone, Copy)]
 pub struct Cursor<'a> {
@@ -30,7 +31,8 @@ impl<'a> Cursor<'a> {
     // The number that the digits at the front are, or 0 where there are none. The byte behind them is passed over. Numbers have at most
     // nineteen digits.
     pub fn unsigned(&mut self) -> usize
-        ensures { length self.new.rest.now ≤ length self.old.rest.now - 1 }
+        ensures shorter { length self.new.rest.now ≤ length self.old.rest.now - 1 }
+        ensures left { LeftOf self.old.rest.now self.new.rest.now }
     {
         let mut value = 0;
         while let Some(digit @ b'0'..=b'9') = self.next() {
@@ -41,7 +43,8 @@ impl<'a> Cursor<'a> {
 
     // Two numbers with a byte between.
     pub fn pair(&mut self) -> (usize, usize)
-        ensures { length self.new.rest.now ≤ length self.old.rest.now - 1 }
+        ensures shorter { length self.new.rest.now ≤ length self.old.rest.now - 1 }
+        ensures left { LeftOf self.old.rest.now self.new.rest.now }
     {
         let first = self.unsigned();
         (first, self.unsigned())
@@ -49,7 +52,8 @@ impl<'a> Cursor<'a> {
 
     // The same for a number that may have a minus, from the least `i64` to the greatest. One beyond them counts as the nearer of the two.
     pub fn signed(&mut self) -> i64
-        ensures { length self.new.rest.now ≤ length self.old.rest.now - 1 }
+        ensures shorter { length self.new.rest.now ≤ length self.old.rest.now - 1 }
+        ensures left { LeftOf self.old.rest.now self.new.rest.now }
     {
         match self.rest.strip_prefix(b"-") {
             Some(rest) => {

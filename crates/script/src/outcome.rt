@@ -1,6 +1,7 @@
 // What a case came to, beside what the script says of it.
 ghost use Rattle.std.specs.Prelude.{◌≡◌, ◌-◌, ◌≤◌, ◌↔◌, length, IsTrue, Some, None};
 ghost use Rattle.script.specs.Outcome.{refused_by, outcome_of, Agrees};
+ghost use Rattle.script.specs.Reading.{LeftOf};
 
 use super::cursor::Cursor;
 use figures::Refusal;
@@ -16,7 +17,8 @@ pub struct Refused {
 impl Refused {
     // `0,0` stands for no refusal.
     pub fn read(text: &mut Cursor) -> Option<Refused>
-        ensures { length text.new.rest.now ≤ length text.old.rest.now - 1 }
+        ensures shorter { length text.new.rest.now ≤ length text.old.rest.now - 1 }
+        ensures left { LeftOf text.old.rest.now text.new.rest.now }
     {
         match text.pair() {
             (0, 0) => None,

@@ -1,6 +1,6 @@
 // Texts as a script writes them. `\n`, `\r`, `\t`, `\0` and `\f` are a newline, a carriage return, a tab, a 0 and a 255, and
 // `[PIECE*TIMES]` is a piece that comes so many times.
-ghost use Rattle.std.specs.Prelude.{◌≤◌};
+ghost use Rattle.std.specs.Prelude.{◌≡◌, ◌≤◌, [], ◌∷◌, ◌++◌, take};
 ghost use Rattle.arrayvec.specs.ArrayVec.{array_vec_len};
 
 use super::cursor::Cursor;
@@ -39,7 +39,8 @@ fn escaped(letter: u8) -> u8 {
 
 // One byte more, if there is room.
 fn put<const N: usize>(out: &mut ArrayVec<u8, N>, byte: u8)
-    ensures { array_vec_len out.old ≤ array_vec_len out.new }
+    ensures put { out.new.items ≡ take N (out.old.items ++ byte ∷ []) }
+    ensures grows { array_vec_len out.old ≤ array_vec_len out.new }
 {
     let _ = out.try_push(byte);
 }

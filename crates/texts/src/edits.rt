@@ -4,21 +4,21 @@ use script::cursor::Cursor;
 use script::text::{Text, expand};
 use std::io::Write;
 
-// The sheet with an edit, if what is to be replaced stands in it: `OLD>NEW` puts NEW for the first OLD, and after `OLD|NEW` the text
-// ends there.
-pub(crate) fn edited(edit: &[u8], sheet: &[u8]) -> Option<Text> {
+// Makes `text` the sheet with an edit, or answers none where what is to be replaced does not stand in it: `OLD>NEW` puts NEW for the
+// first OLD, and after `OLD|NEW` the text ends there.
+pub(crate) fn edit(edit: &[u8], sheet: &[u8], text: &mut Text) -> Option<()> {
     let sign = if edit.contains(&b'>') { b'>' } else { b'|' };
     let mut words = Cursor::new(edit);
     let mut old = ArrayVec::<u8, 4_096>::new();
     expand(words.word(sign), &mut old);
     let (front, back) = cut(sheet, &old)?;
-    let mut text = Text::new();
-    append(&mut text, front);
-    expand(words.rest, &mut text);
+    text.clear();
+    append(text, front);
+    expand(words.rest, text);
     if sign == b'>' || !edit.contains(&b'|') {
-        append(&mut text, back);
+        append(text, back);
     }
-    Some(text)
+    Some(())
 }
 
 // What stands before the first `word` of a text, and behind it.

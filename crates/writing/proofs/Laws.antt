@@ -6,10 +6,11 @@ use mathlib.Core.List.{List, [], ◌∷◌, ◌++◌, append-nil}
 use Rattle.std.specs.Prelude.{Result, Ok, Err}
 use native.Mathlib.Omega.{arith}
 use native.Mathlib.Nat.{le_of_eq}
+use native.Mathlib.Numerals.{add-one}
 use borrow.Author.Tests.{lt-ltb, le-ltb}
 use borrow.Rule.Slice.PartMut.{mid_of, put_mid}
-use lib.ListN.{length, take, drop, set, length-append, length-drop, length-take, length-set, drop_of_length-le}
-use lib.Seq.{take_all}
+use lib.ListN.{length, take, drop, get_or, set, length-append, length-drop, length-take, length-set, drop_of_length-le}
+use lib.Seq.{take_all, take-suc}
 use Rattle.laws.specs.Over.{over, over-set, over-take, over-drop, over-append}
 use Rattle.figures.specs.Outcome.{answered, refused, outcome}
 use Rattle.figures.specs.declared.Refusal.{Refusal}
@@ -82,6 +83,12 @@ module _ (text room : List ℕ) where
   unfolding in_room
   fits h = rw (le-ltb (length room) (length text) h)
 
+-- a turn of a loop that copies a text
+pub put_take : (text : List ℕ) (i : ℕ) {l m : List ℕ} → Put (take i text) l m i → i < length text → length text < 2 ^ 63 → length l < 2 ^ 63 → Put (take (i + 1) text) l (set m i (get_or text i 0)) (i + 1)
+put_take text i p h b g =
+    let e : take (i + 1) text ≡ take i text ++ (get_or text i 0 ∷ []) = rw (add-one, take-suc text i 0) in
+    rw e (put_more (get_or text i 0) p g (omega arith))
+
 -- a writer that looks for room has refused, or has written
 pub wrote_short : (text room : List ℕ) {n : ℕ} → n ≡ saturated (length text) → length room < length text → Wrote text room room (Err (Refusal.Room n))
 unfolding room_after
@@ -103,6 +110,19 @@ wrote_room {text} {room} w = w.room ∙ ap (λ o. room_after o text room) (sym w
 empty : (l : List ℕ) → length l ≡ 0 → l ≡ []
 empty [] e = refl
 empty (x ∷ l) e = absurd (omega arith)
+
+module _ (text room : List ℕ) (b : length room < 2 ^ 63) {y : List ℕ} {n : ℕ} (p : Put text [] y n) where
+  same : put_mid 0 0 room y ≡ room
+  same = ap (put_mid 0 0 room) (empty y p.kept)
+
+  enough : n ≤ length (put_mid 0 0 room y) → length text ≤ length room
+  enough h = omega (arith, p.counted, ap length same)
+
+  pub counted_short : length (put_mid 0 0 room y) < n → Wrote text room (put_mid 0 0 room y) (Err (Refusal.Room n))
+  counted_short h = rw same (wrote_short text room p.counted (omega (arith, p.counted, ap length same)))
+
+  pub counted_fits : n ≤ length (put_mid 0 0 room y) → {after : List ℕ} {m : ℕ} → Put text (put_mid 0 0 room y) after m → Wrote text room after (Ok m)
+  counted_fits h q = wrote_fits (rw same at q) (enough h) b
 
 -- the room, with what came back of none of its bytes
 pub counted_room : {text y : List ℕ} {n : ℕ} (room : List ℕ) → Put text [] y n → y ++ room ≡ room

@@ -12,7 +12,10 @@ pub fn put_text(text: &[u8], room: &mut [u8]) -> usize
     ensures { Put text.now room.old room.new result }
 {
     if text.len() <= room.len() {
-        room[..text.len()].copy_from_slice(text);
+        // A loop, since the library's copy may want `memmove` of whoever links the library for C.
+        for (k, byte) in text.iter().enumerate() {
+            room[k] = *byte;
+        }
     }
     text.len()
 }

@@ -17,7 +17,8 @@ returns-clause-nodes c =
     let a = c.args in
     let n = a.end.count in
     let passes = c.in_ok-check.ensures.verdict in
-    let room = c.requires c.if-end-ne-WHOLE.false in
+    let whole : a.end.at ≡ whole_at = omega arith in
+    let room = c.requires whole in
     let lats = copied n a.lats.now a.lat.now c.copy_from_slice.ensures.after (omega (arith, room)) in
     let lons = copied n a.lons.now a.lon.now c.copy_from_slice-2.ensures.after (omega (arith, room)) in
-    rw (eq-eqb a.end.at whole_at c.if-end-ne-WHOLE.false, sym passes) (λ i. node_lists (lats i) (lons i))
+    rw (eq-eqb a.end.at whole_at whole, sym passes) (λ i. node_lists (lats i) (lons i))

@@ -7,37 +7,46 @@ use Rattle.shift.specs.Round.{round_size}
 use Rattle.shift.proofs.Rounding.{size_within, nearest-below, nearest_above}
 use Rattle.convert.proofs.rounding.rounded.Goals as goal
 
-module _ (n : ℤ) (d : ℕ) {m r : ℕ} (w : Within 4860000000000000000 n) (some : 0 < d) (e : m ≡ nat_abs (machine n)) (q : r ≡ round_size d m) where
-  size_is : r ≡ round_size d (nat_abs n)
-  size_is = q ∙ ap (round_size d) (e ∙ ap nat_abs (reads (bounded w) tt))
+same_size : (n : ℤ) {m : ℕ} → Within 4860000000000000000 n → m ≡ nat_abs (machine n) → m ≡ nat_abs n
+same_size n w e = e ∙ ap nat_abs (reads (bounded w) tt)
 
-  size_small : r ≤ 4860000000000000000
-  size_small =
-      let k = mul-le-mul_right 4860000000000000000 some in
-      omega (arith, size_is, size_within 4860000000000000000 d (nat_abs n) some (omega (arith, k, w.size)))
+same_rounded : (d : ℕ) {k m r : ℕ} → r ≡ round_size d k → k ≡ m → r ≡ round_size d m
+same_rounded d q e = q ∙ ap (round_size d) e
+
+-- a small size is rounded to a small one, whatever number it is the size of
+rounded_small : (d k : ℕ) {r : ℕ} → 0 < d → r ≡ round_size d k → k ≤ 4860000000000000000 → r ≤ 4860000000000000000
+rounded_small d k some q h =
+    let small = mul-le-mul_right 4860000000000000000 some in
+    omega (arith, q, size_within 4860000000000000000 d k some (omega (arith, small, h)))
 
 pub overflow_cast-size : goal.overflow_cast-size
 overflow_cast-size c =
+    let a = c.args in
     let p = c.requires in
-    need (nat (size_small c.args.n c.args.d p.0 p.1 c.unsigned_abs.ensures.value c.rounded_size-size.ensures)) tt
+    let own = same_size a.n p.0 c.unsigned_abs.ensures.value in
+    need (nat (rounded_small a.d _ p.1 c.rounded_size-size.ensures (omega (arith, own, p.0.size)))) tt
 
 pub overflow_sub-result : goal.overflow_sub-result
 overflow_sub-result c =
+    let a = c.args in
     let p = c.requires in
-    need (lit (pos 0) ⊖ nat (size_small c.args.n c.args.d p.0 p.1 c.unsigned_abs.ensures.value c.rounded_size-size.ensures)) tt
+    let own = same_size a.n p.0 c.unsigned_abs.ensures.value in
+    need (lit (pos 0) ⊖ nat (rounded_small a.d _ p.1 c.rounded_size-size.ensures (omega (arith, own, p.0.size)))) tt
 
 pub returns-then-n-lt0 : goal.returns-then-n-lt0
 returns-then-n-lt0 c =
+    let a = c.args in
     let p = c.requires in
-    let s = nat (size_small c.args.n c.args.d p.0 p.1 c.unsigned_abs.ensures.value c.rounded_size-size.ensures) in
-    let e = size_is c.args.n c.args.d p.0 p.1 c.unsigned_abs.ensures.value c.rounded_size-size.ensures in
-    reads (lit (pos 0) ⊖ s) tt
-    ∙ ap (λ r. pos 0 -ℤ pos r) e
-    ∙ nearest-below c.args.d (lt_yes (bounded p.0) (lit (pos 0)) tt c.if-n-lt0.true)
+    let own = same_size a.n p.0 c.unsigned_abs.ensures.value in
+    let s = nat (rounded_small a.d _ p.1 c.rounded_size-size.ensures (omega (arith, own, p.0.size))) in
+    let e : c.rounded_size-size.result ≡ round_size a.d (nat_abs a.n) = same_rounded a.d c.rounded_size-size.ensures (omega (arith, own)) in
+    reads (lit (pos 0) ⊖ s) tt ∙ ap (λ r. pos 0 -ℤ pos r) e ∙ nearest-below a.d (lt_yes (bounded p.0) (lit (pos 0)) tt c.if-n-lt0.true)
 
 pub returns-else-n-lt0 : goal.returns-else-n-lt0
 returns-else-n-lt0 c =
+    let a = c.args in
     let p = c.requires in
-    let s = nat (size_small c.args.n c.args.d p.0 p.1 c.unsigned_abs.ensures.value c.rounded_size-size.ensures) in
-    let e = size_is c.args.n c.args.d p.0 p.1 c.unsigned_abs.ensures.value c.rounded_size-size.ensures in
-    reads s tt ∙ ap pos e ∙ nearest_above c.args.d (lt_no (bounded p.0) (lit (pos 0)) tt c.if-n-lt0.false)
+    let own = same_size a.n p.0 c.unsigned_abs.ensures.value in
+    let s = nat (rounded_small a.d _ p.1 c.rounded_size-size.ensures (omega (arith, own, p.0.size))) in
+    let e : c.rounded_size-size.result ≡ round_size a.d (nat_abs a.n) = same_rounded a.d c.rounded_size-size.ensures (omega (arith, own)) in
+    reads s tt ∙ ap pos e ∙ nearest_above a.d (lt_no (bounded p.0) (lit (pos 0)) tt c.if-n-lt0.false)

@@ -1,4 +1,4 @@
-use Rattle.std.proofs.Common.{◌*◌, arith, ap}
+use Rattle.std.proofs.Common.{◌*◌, mul-le-mul, arith, ap}
 use Rattle.grid.specs.Rules.{node_count_or0}
 use Rattle.grid.specs.declared.Shape.{Shape}
 use Rattle.grid.proofs.RuleLaws.{node_count_is}
@@ -6,7 +6,7 @@ use Rattle.grid.proofs.Passing.{sizes, header_broken}
 use Rattle.grid.proofs.Header.node_count.Goals as goal
 
 pub overflow_mul-result : goal.overflow_mul-result
-overflow_mul-result c = let z = sizes c.in-Ok.ensures in omega (arith, z.extent.nodes)
+overflow_mul-result c = let z = sizes c.in-Ok.ensures in omega (arith, z.extent.nodes, mul-le-mul z.extent.rows_high z.extent.rows_high)
 
 pub returns-in-Ok : goal.returns-in-Ok
 returns-in-Ok c = let z = sizes c.in-Ok.ensures in (rw (node_count_is c.args.self z.unbroken) (ap (λ (s : Shape). s.rows * s.cols) z.is), z.extent.nodes)

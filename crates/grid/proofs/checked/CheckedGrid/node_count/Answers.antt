@@ -1,4 +1,4 @@
-use Rattle.std.proofs.Common.{◌*◌, arith, ap}
+use Rattle.std.proofs.Common.{◌*◌, mul-le-mul, arith, ap}
 use Rattle.grid.specs.Needs.{Extent}
 use Rattle.grid.specs.Lent.{lent}
 use Rattle.grid.specs.declared.Shape.{Shape}
@@ -10,7 +10,7 @@ pub overflow_mul-result : goal.overflow_mul-result
 overflow_mul-result c =
     let g = c.args.self in
     let z : Extent c.shape-shape.result = rw c.shape-shape.ensures (extent (good (lent g.grid) g.passes).header) in
-    omega (arith, z.nodes)
+    omega (arith, z.nodes, mul-le-mul z.rows_high z.rows_high)
 
 pub returns : goal.returns
 returns c =

@@ -1,4 +1,4 @@
-use Rattle.std.proofs.Common.{arith, ℤ, ℕ, List, Bool, ◌≡◌, ◌<◌, ◌+◌, ◌+ℤ◌, ◌-ℤ◌, length, sym, ◌∙◌}
+use Rattle.std.proofs.Common.{arith, ℤ, ℕ, List, Bool, true, false, ◌≡◌, ◌<◌, ◌+◌, ◌+ℤ◌, ◌-ℤ◌, length, min, sym, ◌∙◌}
 use Rattle.laws.specs.Expr.{Expr, need, reads, bounded, ◌⊕◌, ◌⊖◌}
 use Rattle.laws.specs.Logic.{and_last, and_false}
 use Rattle.grid.specs.Nodes.{node, is_southwest, too_much, twist, twisted}
@@ -19,11 +19,26 @@ module _ {s : Shape} {S : List ℤ} (j : Judgeable s S) (k : ℕ) (l : k + s.col
   unfolding twist
   read = reads four tt
 
+  -- that the sums fit is asked of the nodes in any order: it says nothing of which of them the twist takes away
+  abbrev three_across : Expr (node S k -ℤ node S (k + s.cols + 1) -ℤ node S (k + s.cols))
+  three_across = let at = in_component j in bounded (at k (omega arith)) ⊖ bounded (at (k + s.cols + 1) l) ⊖ bounded (at (k + s.cols) (omega arith))
+
+  abbrev four_across : Expr (node S k -ℤ node S (k + s.cols + 1) -ℤ node S (k + s.cols) +ℤ node S (k + 1))
+  four_across = three_across ⊕ bounded (in_component j (k + 1) (omega arith))
+
 pub overflow_sub-twist-2 : goal.overflow_sub-twist-2
-overflow_sub-twist-2 c = need (three c.args.self.judgeable c.args.k c.if-nw-s.false) tt
+overflow_sub-twist-2 c =
+    let a = c.args in
+    let j = a.self.judgeable in
+    let l : a.k + a.self.shape.cols + 1 < length a.self.shifts.now = omega (arith, c.if-nw-s.false) in
+    search (need (three j a.k l) tt, need (three_across j a.k l) tt)
 
 pub overflow_add-twist-3 : goal.overflow_add-twist-3
-overflow_add-twist-3 c = need (four c.args.self.judgeable c.args.k c.if-nw-s.false) tt
+overflow_add-twist-3 c =
+    let a = c.args in
+    let j = a.self.judgeable in
+    let l : a.k + a.self.shape.cols + 1 < length a.self.shifts.now = omega (arith, c.if-nw-s.false) in
+    search (need (four j a.k l) tt, need (four_across j a.k l) tt)
 
 pub returns-then-nw-s : goal.returns-then-nw-s
 unfolding twisted
@@ -39,13 +54,15 @@ unfolding twisted
 returns-then-too_much c =
     let g = c.args.self in
     let k = c.args.k in
-    let t = judged c.too_much.ensures c.min.ensures (read g.judgeable k c.if-nw-s.false) c.if-too_much.true in
-    and_last (is_southwest g.shape k) t (c.has_east.ensures ∙ southwest_is g.shape k (omega (arith, g.judgeable.cut, c.if-nw-s.false)))
+    let l : k + g.shape.cols + 1 < length g.shifts.now = omega (arith, c.if-nw-s.false) in
+    let t : too_much 64 (min g.shape.dlat g.shape.dlon) (twist g.shape.cols g.shifts.now k) ≡ true = judged c.too_much.ensures (omega arith) (read g.judgeable k l) c.if-too_much.true in
+    and_last (is_southwest g.shape k) t (c.has_east.ensures ∙ southwest_is g.shape k (omega (arith, g.judgeable.cut, l)))
 
 pub returns-else-too_much : goal.returns-else-too_much
 unfolding twisted
 returns-else-too_much c =
     let g = c.args.self in
     let k = c.args.k in
-    let t = judged c.too_much.ensures c.min.ensures (read g.judgeable k c.if-nw-s.false) c.if-too_much.false in
+    let l : k + g.shape.cols + 1 < length g.shifts.now = omega (arith, c.if-nw-s.false) in
+    let t : too_much 64 (min g.shape.dlat g.shape.dlon) (twist g.shape.cols g.shifts.now k) ≡ false = judged c.too_much.ensures (omega arith) (read g.judgeable k l) c.if-too_much.false in
     rw (t, and_false (is_southwest g.shape k)) c.if-too_much.false
