@@ -31,7 +31,7 @@ pub fn begin(grid: Grid, room: &mut [u8]) -> Result<usize, Refusal>
 
 // The replies to the lines that end in the next piece of the requests: 2, 5, 3, 4, 14, then 8, for an empty piece too. Where it is refused,
 // the list stays as it was.
-#[tactic(auto, using(figures::proofs::Laws::refused_first), unfolding(crate::specs::Pieces::feeding, writing::specs::Writing::room_after))]
+#[tactic(auto, using(figures::proofs::Laws::refused_first), unfolding(crate::specs::Pieces::feeding, grid::specs::Check::verdict, writing::specs::Writing::room_after))]
 pub fn feed(list: &mut Listing, grid: Grid, piece: &[u8], room: &mut [u8]) -> Result<usize, Refusal>
     ensures answer { outcome result ≡ feeding (lent grid.entry) list.old piece.now room.old }
     ensures list { list.new ≡ list_after (outcome result) (fed_list (lent grid.entry) list.old piece.now) list.old }

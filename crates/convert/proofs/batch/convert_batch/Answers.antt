@@ -1,38 +1,31 @@
-use Rattle.std.proofs.Common.{◌≡◌, ℕ, length, sym, ap, ◌∙◌, rules}
-use Rattle.figures.specs.Outcome.{answered, refused, refusal, map_answer}
-use Rattle.figures.proofs.Laws.{at_exit, refused_first, passed_first, refused_map}
+use Rattle.std.proofs.Common.{◌≡◌, length, sym, ap, ◌∙◌, rules}
+use Rattle.figures.specs.Outcome.{answered, refusal}
+use Rattle.figures.proofs.Laws.{at_exit, refused_first, passed_first}
 use Rattle.grid.specs.Lent.{lent}
-use Rattle.grid.specs.Grid.{Grid}
-use Rattle.grid.specs.Rules.{shape}
-use Rattle.grid.specs.Check.{layout, verdict}
+use Rattle.grid.specs.Check.{verdict}
 use Rattle.convert.specs.Batch.{request_outcome, converting, answers_to, refusals_to, answers_after, refusals_after}
 use Rattle.convert.proofs.BatchLaws.{roomy}
 use Rattle.convert.proofs.batch.convert_batch.Goals as goal
 
--- a refusal of the checks that look at no node is the grid's
-refused_layout : (g : Grid) {n k : ℕ} → refused n k ≡ map_answer (λ (_ : Unit). shape g.header) (layout g) → refused n k ≡ verdict g
-unfolding verdict
-refused_layout g e = refused_first _ (sym (refused_map (λ (_ : Unit). shape g.header) (layout g) e))
-
 -- a grid that is refused, and slices that are too short
 pub returns-in_err-checked-clause-answer : goal.returns-in_err-checked-clause-answer
-unfolding converting
+unfolding converting verdict
 returns-in_err-checked-clause-answer c =
-    let told : refusal c.in_err-checked.field-0.0 ≡ verdict (lent c.args.grid) = search (rules, refused_layout) in
+    let told : refusal c.in_err-checked.field-0.0 ≡ verdict (lent c.args.grid) = search rules in
     at_exit c.from_residual.result c.in_err-checked.field-0.0 c.from_residual.ensures.1 ∙ refused_first _ told
 
 pub returns-in_err-checked-clause-answers : goal.returns-in_err-checked-clause-answers
-unfolding converting answers_after
+unfolding converting answers_after verdict
 returns-in_err-checked-clause-answers c =
     let a = c.args in
-    let told : refusal c.in_err-checked.field-0.0 ≡ verdict (lent a.grid) = search (rules, refused_layout) in
+    let told : refusal c.in_err-checked.field-0.0 ≡ verdict (lent a.grid) = search rules in
     ap (λ o. answers_after o (request_outcome (lent a.grid) a.ways.now a.points.now) a.answers.now) (refused_first _ told)
 
 pub returns-in_err-checked-clause-refusals : goal.returns-in_err-checked-clause-refusals
-unfolding converting refusals_after
+unfolding converting refusals_after verdict
 returns-in_err-checked-clause-refusals c =
     let a = c.args in
-    let told : refusal c.in_err-checked.field-0.0 ≡ verdict (lent a.grid) = search (rules, refused_layout) in
+    let told : refusal c.in_err-checked.field-0.0 ≡ verdict (lent a.grid) = search rules in
     ap (λ o. refusals_after o (request_outcome (lent a.grid) a.ways.now a.points.now) a.refusals.now) (refused_first _ told)
 
 pub returns-in_err-n-clause-answer : goal.returns-in_err-n-clause-answer
