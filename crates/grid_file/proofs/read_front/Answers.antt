@@ -19,10 +19,10 @@ returns-then-length-gt-MAX_FILE-clause-nodes c =
 pub returns-clause-answer : goal.returns-clause-answer
 returns-clause-answer c =
     let a = c.args in
-    c.read.ensures.answer ∙ ap (map_answer header_of) (sym (not_too_long a.length a.room.now (node_lists a.lat.now a.lon.now) (omega (arith, c.if-length-gt-MAX_FILE.false)) c.min.ensures))
+    c.read.ensures.answer ∙ ap (map_answer header_of) (sym (not_too_long a.length a.room.now (node_lists a.lat.now a.lon.now) (omega (arith, c.if-length-gt-MAX_FILE.false)) (omega (arith, c.min.ensures))))
 
 pub returns-clause-nodes : goal.returns-clause-nodes
 returns-clause-nodes c =
     let a = c.args in
     let slices = node_lists a.lat.now a.lon.now in
-    c.read.ensures.nodes ∙ ap (λ o. nodes_after o slices) (sym (not_too_long a.length a.room.now slices (omega (arith, c.if-length-gt-MAX_FILE.false)) c.min.ensures))
+    c.read.ensures.nodes ∙ ap (λ o. nodes_after o slices) (sym (not_too_long a.length a.room.now slices (omega (arith, c.if-length-gt-MAX_FILE.false)) (omega (arith, c.min.ensures))))

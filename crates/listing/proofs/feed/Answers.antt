@@ -10,6 +10,8 @@ use Rattle.listing.proofs.feed.Goals.{then-room-piece+else-room-needed, else-roo
 use Rattle.listing.proofs.Exits.{wrote_within}
 use Rattle.listing.proofs.feed.Goals as goal
 
+-- What the check told is searched for, so that a wrong check is refused for what it leaves out and not for a name.
+
 pub returns-then-room-needed : goal.returns-then-room-needed
 unfolding feeding
 returns-then-room-needed c =

@@ -7,6 +7,8 @@ use Rattle.convert.specs.Batch.{request_outcome, converting, answers_to, refusal
 use Rattle.convert.proofs.BatchLaws.{roomy}
 use Rattle.convert.proofs.batch.convert_batch.Goals as goal
 
+-- What the check told is searched for and `verdict` unfolded, so that a wrong check is refused for what it leaves out and not for a name.
+
 -- a grid that is refused, and slices that are too short
 pub returns-in_err-checked-clause-answer : goal.returns-in_err-checked-clause-answer
 unfolding converting verdict
@@ -67,10 +69,10 @@ unfolding converting answers_after
 returns-clause-answers c =
     let a = c.args in
     let r = roomy (length a.ways.now) a.points.now a.answers.now a.refusals.now c.in_ok-n.ensures in
-    let g : lent c.in_ok-checked.checked.grid ≡ lent a.grid = search rules in
+    let same : lent c.in_ok-checked.checked.grid ≡ lent a.grid = search rules in
     let passed : answered tt ≡ verdict (lent a.grid) = search rules in
     c.fill.ensures.answers
-    ∙ (λ i. answers_to (request_outcome (g i) a.ways.now a.points.now) (sym r.all i) a.answers.now)
+    ∙ (λ i. answers_to (request_outcome (same i) a.ways.now a.points.now) (sym r.all i) a.answers.now)
     ∙ ap (λ o. answers_after o (request_outcome (lent a.grid) a.ways.now a.points.now) a.answers.now) (c.in_ok-n.ensures ∙ passed_first _ passed)
 
 pub returns-clause-refusals : goal.returns-clause-refusals
@@ -78,8 +80,8 @@ unfolding converting refusals_after
 returns-clause-refusals c =
     let a = c.args in
     let r = roomy (length a.ways.now) a.points.now a.answers.now a.refusals.now c.in_ok-n.ensures in
-    let g : lent c.in_ok-checked.checked.grid ≡ lent a.grid = search rules in
+    let same : lent c.in_ok-checked.checked.grid ≡ lent a.grid = search rules in
     let passed : answered tt ≡ verdict (lent a.grid) = search rules in
     c.fill.ensures.refusals
-    ∙ (λ i. refusals_to (request_outcome (g i) a.ways.now a.points.now) (sym r.all i) a.refusals.now)
+    ∙ (λ i. refusals_to (request_outcome (same i) a.ways.now a.points.now) (sym r.all i) a.refusals.now)
     ∙ ap (λ o. refusals_after o (request_outcome (lent a.grid) a.ways.now a.points.now) a.refusals.now) (c.in_ok-n.ensures ∙ passed_first _ passed)
